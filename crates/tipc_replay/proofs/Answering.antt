@@ -13,7 +13,7 @@ use Rattle.tipc_node.specs.Telling.{IsTold}
 use Rattle.tipc_node.specs.Turns.{addr_of}
 use Rattle.tipc_node.specs.Works.{addr_of_word}
 use Rattle.tipc_replay.specs.declared.events.WorldEvent.{WorldEvent}
-use Rattle.tipc_replay.specs.declared.events.WorldEvent.TheVariants.{Know, Restart, Call, Arrive}
+use Rattle.tipc_replay.specs.declared.events.WorldEvent.TheVariants.{Restart, Call, Arrive}
 use Rattle.tipc_replay.specs.Answered.{AllAnswered, AreAnswered}
 use Rattle.tipc_replay.specs.Calls.{node_of}
 use Rattle.tipc_replay.specs.Due.{unarrived}
@@ -65,7 +65,6 @@ past_same : (m m' : MemberState) → m'.past ≡ m.past → PastWas m m'
 past_same m m' same k journal there = get_longer m.past (m.node.journal ∷ []) k journal (subst (λ js. slice_get js k ≡ Some journal) same there)
 
 does_past : (by : By) (event : WorldEvent) (bytes : List ℕ) (m m' : MemberState) (frames : List Outgoing) (answered : Answer) → HasEffect by event bytes m m' frames answered → PastWas m m'
-does_past by (Know node peer bearer) bytes m m' frames answered h = past_same m m' (ap (λ (x : MemberState). x.past) h.0)
 does_past by (Restart node) bytes m m' frames answered h = λ k journal there. subst (λ js. slice_get js k ≡ Some journal) h.0.past there
 does_past by (Call node call) bytes m m' frames answered h = past_same m m' (ap (λ (x : MemberState). x.past) h.after)
 does_past by (Arrive node bearer place) bytes m m' frames answered h = past_same m m' (ap (λ (x : MemberState). x.past) h.after)
@@ -97,7 +96,6 @@ arrival_past old new by node bearer place answered lost all h = case (unarrived 
     case None free = let a = h.arrives free in happens_past old new by (Arrive node bearer place) a.0.frame answered lost all a.2
 
 becomes_past : (old new : Stage) (by : By) (event : WorldEvent) (answered : Answer) (lost : Bool) → AllAnswered old.members → Becomes old by event new answered lost → PastAnswered new.members
-becomes_past old new by (Know node peer bearer) answered lost all h = happens_past old new by (Know node peer bearer) [] answered lost all h
 becomes_past old new by (Restart node) answered lost all h = happens_past old new by (Restart node) [] answered lost all h
 becomes_past old new by (Call node call) answered lost all h = happens_past old new by (Call node call) [] answered lost all h
 becomes_past old new by (Arrive node bearer place) answered lost all h = arrival_past old new by node bearer place answered lost all h

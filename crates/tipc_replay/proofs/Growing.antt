@@ -7,7 +7,7 @@ use Rattle.tipc_types.specs.declared.node_calls.By.{By}
 use Rattle.tipc_outside.specs.declared.outgoing.Outgoing.{Outgoing}
 use Rattle.tipc_journal.specs.Steps.{step_entries}
 use Rattle.tipc_replay.specs.declared.events.WorldEvent.{WorldEvent}
-use Rattle.tipc_replay.specs.declared.events.WorldEvent.TheVariants.{Know, Restart, Call, Arrive}
+use Rattle.tipc_replay.specs.declared.events.WorldEvent.TheVariants.{Restart, Call, Arrive}
 use Rattle.tipc_replay.specs.Air.{Leaves, leaving_on, with_leaving}
 use Rattle.tipc_replay.specs.Skies.{AirState, air_on}
 use Rattle.tipc_replay.specs.Calls.{node_of}
@@ -18,7 +18,7 @@ use Rattle.tipc_replay.specs.States.{MemberState, contact_at, history, history_a
 use Rattle.tipc_replay.specs.Steps.{Becomes, Happens, IsArrival, Stage}
 use Rattle.tipc_replay.proofs.frames.Released.{came}
 use Rattle.tipc_replay.proofs.LookUps.{history_at-is, history_at-same, member_at-changed, member_at-is, member_at-other}
-use Rattle.tipc_replay.proofs.streams.Histories.{history_restarted, history_same}
+use Rattle.tipc_replay.proofs.streams.Histories.{history_restarted}
 use Rattle.tipc_replay.proofs.pairs.PairedEvents.{made_step, made_turn, met_step, met_turn}
 use Rattle.tipc_replay.proofs.pairs.PairedTurns.{turn_history}
 
@@ -27,7 +27,6 @@ prefix_same xs ys same = ([], same ∙ sym (append-nil xs))
 
 -- all that ever happened at a node
 does_grow : (by : By) (event : WorldEvent) (bytes : List ℕ) (m m' : MemberState) (frames : List Outgoing) (answered : Answer) → HasEffect by event bytes m m' frames answered → IsPrefixOf (history m) (history m')
-does_grow by (Know node peer bearer) bytes m m' frames answered h = prefix_same (history m) (history m') (history_same m m' (ap (λ (n : MemberState). n.past) h.0) (ap (λ (n : MemberState). n.node.journal) h.0))
 does_grow by (Restart node) bytes m m' frames answered h = prefix_same (history m) (history m') (history_restarted m m' h.0)
 does_grow by (Call node call) bytes m m' frames answered h = (step_entries (made_step by call m m' frames answered h), turn_history m m' [] _ frames (made_turn by call m m' frames answered h))
 does_grow by (Arrive node bearer place) bytes m m' frames answered h = (step_entries (met_step by bearer place bytes m m' frames answered h), turn_history m m' bytes _ frames (met_turn by bearer place bytes m m' frames answered h))

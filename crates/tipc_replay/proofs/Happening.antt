@@ -1,30 +1,26 @@
 -- An event among the nodes and in the air, put together from what its calls say.
-use Rattle.std.proofs.Common.{◌≡◌, ◌<◌, ◌≤◌, ℕ, suc, zero, Bool, true, false, List, Option, Some, None, [], ◌∷◌, take, refl, sym, ap, ◌∙◌, subst, arith}
+use Rattle.std.proofs.Common.{◌≡◌, ◌<◌, ◌≤◌, ℕ, suc, zero, Bool, true, List, Option, Some, None, [], ◌∷◌, take, refl, sym, ap, ◌∙◌, subst, arith}
 use Rattle.std.proofs.Math.Path.{fun_ext}
-use Rattle.std.proofs.lemmas.Bool.Decides.{nat_tests}
-use Rattle.std.specs.Prelude.{if◌then◌else◌, is_some, nat_le, option_map, slice_get, slice_index_or, unwrap_or, filter, map}
+use Rattle.std.specs.Prelude.{if◌then◌else◌, is_some, option_map, slice_get, slice_index_or, unwrap_or, filter, map}
 use Rattle.tipc_types.specs.Address.{node_word}
 use Rattle.tipc_types.specs.declared.node_calls.Answer.{Answer}
 use Rattle.tipc_types.specs.declared.node_calls.By.{By}
 use Rattle.tipc_outside.specs.declared.outgoing.Outgoing.{Outgoing}
 use Rattle.tipc_outside.specs.Frames.{Adds, Out, frames_leaving, no_frames}
 use Rattle.tipc_node.specs.declared.neighbours.Neighbour.{Neighbour}
-use Rattle.tipc_link.specs.Links.{LinkEnd}
-use Rattle.tipc_pair.specs.Facing.{facing}
-use Rattle.tipc_node.specs.Nodes.{end_with, neighbour_of}
+use Rattle.tipc_node.specs.Nodes.{neighbour_of}
 use Rattle.tipc_replay.specs.declared.air.Sent.{Sent}
 use Rattle.tipc_replay.specs.declared.events.WorldEvent.{WorldEvent}
 use Rattle.tipc_replay.specs.declared.flying.Met.{Met}
-use Rattle.tipc_replay.specs.declared.events.WorldEvent.TheVariants.{Know, Restart, Call, Arrive}
+use Rattle.tipc_replay.specs.declared.events.WorldEvent.TheVariants.{Restart, Call, Arrive}
 use Rattle.tipc_replay.specs.Air.{airborne, is_on, met_in, met_sender, receiver_of, Emits}
-use Rattle.tipc_replay.specs.Numbers.{end_on}
 use Rattle.tipc_replay.specs.Skies.{AirState, air_on, with_both}
 use Rattle.tipc_replay.specs.Calls.{CanDoAt, CanHappenAt, HasNextBoot, may_end_contact, node_of}
 use Rattle.tipc_replay.specs.Due.{frame_for, unarrived}
 use Rattle.tipc_replay.specs.Events.{AreSettled, DidAt}
 use Rattle.tipc_replay.specs.Members.{sender_of}
 use Rattle.tipc_replay.specs.Sound.{IsSound}
-use Rattle.tipc_replay.specs.States.{MemberState, contact_at, knows, numbers_at}
+use Rattle.tipc_replay.specs.States.{MemberState, contact_at, numbers_at}
 use Rattle.tipc_replay.specs.Steps.{stage, Happens, IsArrival}
 use Rattle.tipc_replay.proofs.calls.Calls.{the_some}
 use Rattle.tipc_replay.proofs.frames.Lasting.{StandsFor, stands_before, stands_sender}
@@ -108,31 +104,13 @@ there_settled members n settled there =
     let is = settled n m.0 m.1 in
     (is.from_one, is.to_32)
 
--- a node that doesn't know another on a bearer has no link end to it there
-pub not_known : (members : List (Option MemberState)) (a peer bearer : ℕ) (m : MemberState) → slice_index_or members a None ≡ Some m → bearer ≤ 1 → knows members a peer bearer ≡ false → end_with bearer (neighbour_of m.node peer) ≡ None
-not_known members a peer bearer m was low unknown =
-    case (neighbour_of m.node peer) (ap (λ o. is_some (end_on bearer o)) (sym (pair_at-is members a peer m (member_at-is members a m was))) ∙ unknown)
-  where
-    none : (o : Option LinkEnd) → is_some o ≡ false → o ≡ None
-    none None is = refl
-    none (Some e) is = absurd cc
-
-    case : (o : Option Neighbour) → is_some (end_on bearer (option_map (λ (x : Neighbour). x.pair) o)) ≡ false → end_with bearer o ≡ None
-    case None is = refl
-    case (Some x) is =
-        let one : nat_le bearer 1 ≡ true = grind (arith, nat_tests, low) in
-        none (facing bearer x.pair).near (ap (λ t. is_some (if t then (facing bearer x.pair).near else None)) (sym one) ∙ is)
-
 -- an event that can happen and is no arrival, at the node where it happens
-pub can_do : (members : List (Option MemberState)) (event : WorldEvent) → AreSettled members → ((node bearer frame : ℕ) → event ≡ Arrive node bearer frame → ⊥) → CanHappenAt members event → HasNextBoot members event → CanDoAt members event
-can_do members (Know node peer bearer) settled other can next m was =
-    let number = there_settled members peer settled can.1 in (number.0, number.1, can.3, not_known members node peer bearer m was can.3 can.4)
-can_do members (Restart node) settled other can next m was = next m was
-can_do members (Call node call) settled other can next m was = can.1
-can_do members (Arrive node bearer frame) settled other can next m was = absurd (other node bearer frame refl)
+pub can_do : (members : List (Option MemberState)) (event : WorldEvent) → ((node bearer frame : ℕ) → event ≡ Arrive node bearer frame → ⊥) → CanHappenAt members event → HasNextBoot members event → CanDoAt members event
+can_do members (Restart node) other can next m was = next m was
+can_do members (Call node call) other can next m was = can.1
+can_do members (Arrive node bearer frame) other can next m was = absurd (other node bearer frame refl)
 
 pub at_its_node : (members : List (Option MemberState)) (event : WorldEvent) → ((node bearer frame : ℕ) → event ≡ Arrive node bearer frame → ⊥) → CanHappenAt members event → is_some (slice_index_or members (node_of event) None) ≡ true
-at_its_node members (Know node peer bearer) other can = can.0
 at_its_node members (Restart node) other can = can
 at_its_node members (Call node call) other can = can.0
 at_its_node members (Arrive node bearer frame) other can = can.0

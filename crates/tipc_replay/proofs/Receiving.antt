@@ -7,7 +7,7 @@ use Rattle.tipc_outside.specs.declared.outgoing.Outgoing.{Outgoing}
 use Rattle.tipc_replay.specs.declared.air.Arrived.{Arrived}
 use Rattle.tipc_replay.specs.declared.air.Sent.{Sent}
 use Rattle.tipc_replay.specs.declared.events.WorldEvent.{WorldEvent}
-use Rattle.tipc_replay.specs.declared.events.WorldEvent.TheVariants.{Know, Restart, Call, Arrive}
+use Rattle.tipc_replay.specs.declared.events.WorldEvent.TheVariants.{Restart, Call, Arrive}
 use Rattle.tipc_replay.specs.Calls.{node_of}
 use Rattle.tipc_replay.specs.Due.{frame_for, kept_for, unarrived}
 use Rattle.tipc_replay.specs.Effects.{HasEffect}
@@ -54,7 +54,6 @@ IsFor air other = Unit {0}
 
 does_receive : (air : AirState) (by : By) (event : WorldEvent) (bytes : List ℕ) (m m' : MemberState) (frames : List Outgoing) (answered : Answer) → IsFor air event → HasEffect by event bytes m m' frames answered
     → HasReceived air (node_of event) m.arrivals → HasReceived air (node_of event) m'.arrivals
-does_receive air by (Know node peer bearer) bytes m m' frames answered is h had = subst (HasReceived air node) (sym (ap (λ (x : MemberState). x.arrivals) h.0)) had
 does_receive air by (Restart node) bytes m m' frames answered is h had = subst (HasReceived air node) (sym h.0.arrivals) had
 does_receive air by (Call node call) bytes m m' frames answered is h had = subst (HasReceived air node) (sym (ap (λ (x : MemberState). x.arrivals) h.after)) had
 does_receive air by (Arrive node bearer place) bytes m m' frames answered is h had =
@@ -89,7 +88,6 @@ arrival_received old new by node bearer place answered lost all h = case (unarri
 
 -- after one event
 pub becomes_received : (old new : Stage) (by : By) (event : WorldEvent) (answered : Answer) (lost : Bool) → AreReceived old.members old.air → Becomes old by event new answered lost → AreReceived new.members new.air
-becomes_received old new by (Know node peer bearer) answered lost all h = happens_received old new by (Know node peer bearer) [] answered lost tt all h
 becomes_received old new by (Restart node) answered lost all h = happens_received old new by (Restart node) [] answered lost tt all h
 becomes_received old new by (Call node call) answered lost all h = happens_received old new by (Call node call) [] answered lost tt all h
 becomes_received old new by (Arrive node bearer place) answered lost all h = arrival_received old new by node bearer place answered lost all h

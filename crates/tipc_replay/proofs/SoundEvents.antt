@@ -1,5 +1,5 @@
 -- Every event keeps a world sound.
-use Rattle.std.proofs.Common.{◌≡◌, ◌≢◌, ℕ, Bool, true, List, [], Option, Some, None, option_map, slice_index_or, refl, sym, ap, ◌∙◌, subst, inl, inr, ◌⊎◌, get_or-set_same, get_or-set_other, ◌≤◌, ◌<◌, false, length}
+use Rattle.std.proofs.Common.{◌≡◌, ◌≢◌, ℕ, Bool, true, List, [], Option, Some, None, option_map, slice_index_or, refl, sym, ap, ◌∙◌, subst, inl, inr, ◌⊎◌, get_or-set_same, get_or-set_other, false, length}
 use Rattle.std.specs.Prelude.{is_some}
 use Rattle.std.proofs.lemmas.Bool.{cases_eq}
 use Rattle.tipc_types.specs.Address.{node_word}
@@ -19,21 +19,19 @@ use Rattle.tipc_node.specs.Turns.{IsBrought, IsFrom, IsMaking, PeerTurn, pair_in
 use Rattle.tipc_pair.proofs.turns.PairEvents.{Any, On, OnBearer, closed_on}
 use Rattle.tipc_pair.proofs.turns.PairKept.{both_facing, turn_kept, turn_own}
 use Rattle.tipc_replay.specs.declared.events.WorldEvent.{WorldEvent}
-use Rattle.tipc_replay.specs.declared.events.WorldEvent.TheVariants.{Know, Restart, Call, Arrive}
+use Rattle.tipc_replay.specs.declared.events.WorldEvent.TheVariants.{Restart, Call, Arrive}
 use Rattle.tipc_replay.specs.Calls.{node_of}
 use Rattle.tipc_replay.specs.Effects.{HasEffect}
-use Rattle.tipc_replay.specs.Members.{IsRestarted, known_member}
+use Rattle.tipc_replay.specs.Members.{IsRestarted}
 use Rattle.tipc_replay.specs.Sound.{IsNumber, IsPairOf, IsSound}
-use Rattle.tipc_replay.specs.States.{MemberState, contact_at, has_member, knows, member_at, pair_at}
+use Rattle.tipc_replay.specs.States.{MemberState, contact_at, has_member, member_at, pair_at}
 use Rattle.tipc_replay.specs.Steps.{Happens, Stage, Turns}
 use Rattle.tipc_replay.proofs.pairs.Bringing.{are_brought}
 use Rattle.tipc_replay.proofs.frames.Coming.{ComesOut, nothing_brought, nothing_out, sender_there}
-use Rattle.tipc_replay.proofs.streams.Histories.{history_restarted, history_same}
-use Rattle.tipc_replay.proofs.Happening.{not_known}
+use Rattle.tipc_replay.proofs.streams.Histories.{history_restarted}
 use Rattle.tipc_replay.proofs.LookUps.{pair_at-is, pair_at-same, place_within}
 use Rattle.tipc_replay.proofs.pairs.Outward.{all_out, there_number}
 use Rattle.tipc_replay.proofs.pairs.PairedEvents.{IsReady, happens_pairs, made_step, made_turn, met_step, met_turn, ready_out}
-use Rattle.tipc_replay.proofs.pairs.PairedStarts.{known_is, known_of, known_pair}
 use Rattle.tipc_replay.proofs.pairs.PairedTurns.{TakesTurn, turn_history}
 use Rattle.tipc_replay.proofs.frames.Routes.{air_flies, air_sent}
 use Rattle.tipc_replay.proofs.pairs.Pairings.{with_in}
@@ -79,7 +77,7 @@ turn_between own bytes s frames a b x x' abreast is p =
 -- an end is made where a frame of the peer arrived
 made_by : (b : ℕ) (bytes : List ℕ) (opening : Opening) → IsMaking opening → IsBrought b bytes opening → (es : ℕ) × (er : ℕ) × (p : Fields) × IsFrom b bytes es er p
 made_by b bytes rests making brought = absurd making
-made_by b bytes (makes bearer is_mended) making brought = brought
+made_by b bytes (makes bearer is_mended) making brought = (brought.0, brought.1, brought.2, brought.3)
 made_by b bytes (mends bearer) making brought = absurd making
 made_by b bytes (cuts bearer) making brought = absurd making
 made_by b bytes (ticks shown) making brought = absurd making
@@ -116,31 +114,8 @@ keeps_restart members a before after r = record {
   between = λ b x is. absurd (let gone = ap (option_map (λ (y : Neighbour). y.pair)) (r.node.alone b) in let wrong : ⊥ = cc in wrong);
 }
 
-keeps_know : (s : Stage) (a peer bearer : ℕ) (before after : MemberState) → IsSound s.members s.air → slice_index_or s.members a None ≡ Some before → member_at s.members a ≡ Some before
-    → IsOther s.members a peer → bearer ≤ 1 → knows s.members a peer bearer ≡ false → after ≡ known_member before peer bearer → peer < length before.node.neighbours → KeepsNode s.members a before after
-keeps_know s a peer bearer before after sound there was apart low unknown is within = record {
-  own = ap (λ (m : MemberState). m.node.own) is;
-  none = λ b was. elim (cases_eq b peer) [
-    | inl same ↦ inr (subst (IsOther s.members a) (sym same) apart)
-    | inr other ↦ inl (ap (λ (m : MemberState). pair_in m.node b) is ∙ ap (option_map (λ (x : Neighbour). x.pair)) (get_or-set_other before.node.neighbours peer b _ None other) ∙ was)
-  ];
-  between = λ b x has.
-      let now : pair_in (known_member before peer bearer).node b ≡ Some x = ap (λ (m : MemberState). pair_in m.node b) (sym is) ∙ has in
-      elim (cases_eq b peer) [
-        | inl same ↦
-            let none = not_known s.members a peer bearer before there low unknown in
-            let pair : known_pair before peer bearer ≡ x = (let e : Some (known_pair before peer bearer) ≡ Some x = sym (known_is before peer bearer within) ∙ ap (pair_in (known_member before peer bearer).node) (sym same) ∙ now in cc) in
-            subst (λ k. IsPairOf a k x) (sym same) (subst (IsPairOf a peer) pair (known_of a before peer bearer (sound.numbered a before there).1 (λ y at. pair_between s a peer before y sound was at) none))
-        | inr other ↦
-            let old : pair_in before.node b ≡ Some x = sym (ap (option_map (λ (y : Neighbour). y.pair)) (get_or-set_other before.node.neighbours peer b _ None other)) ∙ now in
-            sound.between a b x (pair_at-is s.members a b before was ∙ old)
-      ];
-}
-
 keeps : (s : Stage) (by : By) (event : WorldEvent) (bytes : List ℕ) (before after : MemberState) (frames : List Outgoing) (answered : Answer) → IsSound s.members s.air → slice_index_or s.members (node_of event) None ≡ Some before
     → member_at s.members (node_of event) ≡ Some before → IsReady s.members s.air event bytes before → HasEffect by event bytes before after frames answered → KeepsNode s.members (node_of event) before after
-keeps s by (Know a peer bearer) bytes before after frames answered sound there was ready h =
-    keeps_know s a peer bearer before after sound there was (ready.0, ready.1) ready.2 ready.3 h.0 h.3
 keeps s by (Restart a) bytes before after frames answered sound there was ready h = keeps_restart s.members a before after h.0
 keeps s by (Call a call) bytes before after frames answered sound there was ready h =
     keeps_turn s a before after [] (made_step by call before after frames answered h) frames sound there was (made_turn by call before after frames answered h) (λ b es er p from. absurd (nothing_brought b es er p from))
@@ -213,8 +188,6 @@ taken_streams old new a before after bytes step frames lost sound t turn out =
 
 streams_after : (old new : Stage) (by : By) (event : WorldEvent) (bytes : List ℕ) (before after : MemberState) (frames : List Outgoing) (answered : Answer) (lost : Bool) → IsSound old.members old.air
     → Turns old new (node_of event) before after frames lost → IsReady old.members old.air event bytes before → HasEffect by event bytes before after frames answered → StreamsSound new.members
-streams_after old new by (Know a peer bearer) bytes before after frames answered lost sound t ready h =
-    streams_same old.members new.members a before after (streams_of old.members old.air sound) t.was t.members (history_same before after (ap (λ (m : MemberState). m.past) h.0) (ap (λ (m : MemberState). m.node.journal) h.0))
 streams_after old new by (Restart a) bytes before after frames answered lost sound t ready h =
     streams_same old.members new.members a before after (streams_of old.members old.air sound) t.was t.members (history_restarted before after h.0)
 streams_after old new by (Call a call) bytes before after frames answered lost sound t ready h =

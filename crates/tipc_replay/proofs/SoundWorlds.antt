@@ -15,9 +15,9 @@ use Rattle.tipc_two_nodes.proofs.sights.Sights.{restarted, starts, turned}
 use Rattle.tipc_node.specs.declared.neighbours.Neighbour.{Neighbour}
 use Rattle.tipc_replay.specs.declared.air.Sent.{Sent}
 use Rattle.tipc_replay.specs.declared.events.WorldEvent.{WorldEvent}
-use Rattle.tipc_replay.specs.declared.events.WorldEvent.TheVariants.{Know, Restart, Call, Arrive}
+use Rattle.tipc_replay.specs.declared.events.WorldEvent.TheVariants.{Restart, Call, Arrive}
 use Rattle.tipc_replay.specs.Air.{sent_between}
-use Rattle.tipc_replay.specs.Calls.{CanHappenAt, HasNextBoot}
+use Rattle.tipc_replay.specs.Calls.{HasNextBoot}
 use Rattle.tipc_replay.specs.Due.{unarrived}
 use Rattle.tipc_node.specs.Messages.{bytes_of}
 use Rattle.tipc_node.specs.Turns.{pair_in}
@@ -46,13 +46,12 @@ arrival_sound old new by node bearer place answered lost sound h = case (unarriv
         let a = h.arrives free in
         happens_sound old new by (Arrive node bearer place) a.0.frame answered lost sound a.2 (a.0, a.1, free, refl)
 
-pub becomes_sound : (old new : Stage) (by : By) (event : WorldEvent) (answered : Answer) (lost : Bool) → IsSound old.members old.air → HasNextBoot old.members event → CanHappenAt old.members event → Becomes old by event new answered lost
+pub becomes_sound : (old new : Stage) (by : By) (event : WorldEvent) (answered : Answer) (lost : Bool) → IsSound old.members old.air → HasNextBoot old.members event → Becomes old by event new answered lost
     → IsSound new.members new.air
-becomes_sound old new by (Know node peer bearer) answered lost sound boots can h = happens_sound old new by (Know node peer bearer) [] answered lost sound h (can.2, can.1, can.3, can.4)
-becomes_sound old new by (Restart node) answered lost sound boots can h =
+becomes_sound old new by (Restart node) answered lost sound boots h =
     happens_sound old new by (Restart node) [] answered lost sound h (let next = boots h.before h.turns.was in omega arith)
-becomes_sound old new by (Call node call) answered lost sound boots can h = happens_sound old new by (Call node call) [] answered lost sound h tt
-becomes_sound old new by (Arrive node bearer place) answered lost sound boots can h = arrival_sound old new by node bearer place answered lost sound h
+becomes_sound old new by (Call node call) answered lost sound boots h = happens_sound old new by (Call node call) [] answered lost sound h tt
+becomes_sound old new by (Arrive node bearer place) answered lost sound boots h = arrival_sound old new by node bearer place answered lost sound h
 
 -- ---- a node comes in
 

@@ -5,7 +5,7 @@ use Rattle.std.proofs.lemmas.Bool.{cases_eq}
 use Rattle.tipc_types.specs.declared.node_calls.Answer.{Answer}
 use Rattle.tipc_types.specs.declared.node_calls.By.{By}
 use Rattle.tipc_replay.specs.declared.events.WorldEvent.{WorldEvent}
-use Rattle.tipc_replay.specs.declared.events.WorldEvent.TheVariants.{Know, Restart, Call, Arrive}
+use Rattle.tipc_replay.specs.declared.events.WorldEvent.TheVariants.{Restart, Call, Arrive}
 use Rattle.tipc_node.specs.declared.recording.NodeFault.{NodeFault}
 use Rattle.tipc_replay.specs.declared.replays.Happened.{Happened}
 use Rattle.tipc_replay.specs.Calls.{node_of}
@@ -40,7 +40,6 @@ arrival_there old new by node bearer place answered lost None e h n = let arrive
 
 pub becomes_there : (old new : Stage) (by : By) (event : WorldEvent) (answered : Answer) (lost : Bool) → Becomes old by event new answered lost → SameThere old.members new.members
 becomes_there old new by (Arrive node bearer place) answered lost h = arrival_there old new by node bearer place answered lost _ refl h
-becomes_there old new by (Know node peer bearer) answered lost h = happens_there old new by (Know node peer bearer) [] answered lost h
 becomes_there old new by (Restart node) answered lost h = happens_there old new by (Restart node) [] answered lost h
 becomes_there old new by (Call node call) answered lost h = happens_there old new by (Call node call) [] answered lost h
 

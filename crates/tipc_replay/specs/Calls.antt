@@ -1,31 +1,26 @@
 -- What an event needs, what it counts for, and when it can't be recorded.
-use Rattle.std.specs.Prelude.{◌≡◌, ◌≢◌, ◌≤◌, ◌<◌, ℕ, Bool, true, false, ◌&&◌, List, Option, Some, None, is_none, is_some, not, option_map, slice_index_or, unwrap_or}
+use Rattle.std.specs.Prelude.{◌≡◌, ◌≤◌, ◌<◌, ℕ, Bool, true, false, ◌&&◌, List, Option, Some, None, is_none, is_some, not, option_map, slice_index_or, unwrap_or}
 use Rattle.tipc_types.specs.declared.node_calls.EventNote.{EventNote}
 use Rattle.tipc_types.specs.declared.node_calls.EventNote.TheVariants as note
 use Rattle.tipc_journal.specs.Room.{has_journal_room}
 use Rattle.tipc_node.specs.Calls.{CanPerform}
-use Rattle.tipc_node.specs.Nodes.{NodeState, end_with, neighbour_of}
+use Rattle.tipc_node.specs.Nodes.{NodeState}
 use Rattle.tipc_node.specs.declared.recording.NodeFault.{NodeFault}
 use Rattle.tipc_node.specs.declared.recording.NodeFault.TheVariants.{JournalFull, NoMemory}
 use Rattle.tipc_replay.specs.declared.events.WorldEvent.{WorldEvent}
-use Rattle.tipc_replay.specs.declared.events.WorldEvent.TheVariants.{Know, Restart, Call, Arrive}
+use Rattle.tipc_replay.specs.declared.events.WorldEvent.TheVariants.{Restart, Call, Arrive}
 use Rattle.tipc_replay.specs.Due.{unarrived}
 use Rattle.tipc_replay.specs.Skies.{AirState}
-use Rattle.tipc_replay.specs.States.{MemberState, knows}
+use Rattle.tipc_replay.specs.States.{MemberState}
 
 -- the node at which an event happens
 abbrev pub node_of : WorldEvent → ℕ
-node_of (Know node peer bearer) = node
 node_of (Restart node) = node
 node_of (Call node call) = node
 node_of (Arrive node bearer frame) = node
 
--- The node that a node comes to know on one of the two bearers is another one that is there and that it doesn't know there yet. A call is
--- one that nodes perform.
+-- the node is there; a call is one that nodes perform, and what arrives comes on one of the two bearers
 abbrev pub CanHappenAt : List (Option MemberState) → WorldEvent → Type 0
-CanHappenAt members (Know node peer bearer) =
-    (is_some (slice_index_or members node None) ≡ true) × (is_some (slice_index_or members peer None) ≡ true)
-    × (peer ≢ node) × (bearer ≤ 1) × (knows members node peer bearer ≡ false)
 CanHappenAt members (Restart node) = is_some (slice_index_or members node None) ≡ true
 CanHappenAt members (Call node call) =
     (is_some (slice_index_or members node None) ≡ true) × CanPerform call
@@ -38,7 +33,6 @@ HasNextBoot members other = Unit {0}
 
 -- what an event needs of its node alone; an arrival is none of these
 abbrev pub CanDo : NodeState → WorldEvent → Type 0
-CanDo n (Know node peer bearer) = (1 ≤ peer) × (peer ≤ 32) × (bearer ≤ 1) × (end_with bearer (neighbour_of n peer) ≡ None)
 CanDo n (Restart node) = n.boot < 4294967295
 CanDo n (Call node call) = CanPerform call
 CanDo n (Arrive node bearer frame) = ⊥
@@ -48,9 +42,8 @@ abbrev pub CanDoAt : List (Option MemberState) → WorldEvent → Type 0
 CanDoAt members event =
     (m : MemberState) → slice_index_or members (node_of event) None ≡ Some m → CanDo m.node event
 
--- whether a journal records the event as a call: coming to know a peer isn't one, and a restart isn't
+-- whether a journal records the event as a call: a restart alone isn't one
 abbrev pub is_recorded : WorldEvent → Bool
-is_recorded (Know node peer bearer) = false
 is_recorded (Restart node) = false
 is_recorded event = true
 

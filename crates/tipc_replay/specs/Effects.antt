@@ -1,5 +1,5 @@
 -- What an event makes of the node at which it happens: the node after it, the frames that leave, and the answer.
-use Rattle.std.specs.Prelude.{All, ◌≡◌, ◌<◌, ℕ, List, [], length}
+use Rattle.std.specs.Prelude.{◌≡◌, ℕ, List, [], length}
 use Rattle.tipc_types.specs.declared.node_calls.Answer.{Answer}
 use Rattle.tipc_types.specs.declared.node_calls.Answer.TheVariants as answer
 use Rattle.tipc_types.specs.declared.node_calls.Arrival.{Arrival}
@@ -10,14 +10,10 @@ use Rattle.tipc_outside.specs.declared.outgoing.Outgoing.{Outgoing}
 use Rattle.tipc_outside.specs.Frames.{Adds, Out}
 use Rattle.tipc_node.specs.Arrivals.{Arrives}
 use Rattle.tipc_node.specs.Calls.{CallTurn, Performs}
-use Rattle.tipc_node.specs.Nodes.{known_frames, known_node}
-use Rattle.tipc_node.specs.Sharing.{SharesNames}
-use Rattle.tipc_node.specs.Telling.{IsTold}
-use Rattle.tipc_node.specs.Turns.{IsRouted}
 use Rattle.tipc_node.specs.Sockets.{kept_answer}
 use Rattle.tipc_replay.specs.declared.events.WorldEvent.{WorldEvent}
-use Rattle.tipc_replay.specs.declared.events.WorldEvent.TheVariants.{Know, Restart, Call, Arrive}
-use Rattle.tipc_replay.specs.Members.{arrived_member, called, known_member, sender_of, IsRestarted}
+use Rattle.tipc_replay.specs.declared.events.WorldEvent.TheVariants.{Restart, Call, Arrive}
+use Rattle.tipc_replay.specs.Members.{arrived_member, called, sender_of, IsRestarted}
 use Rattle.tipc_replay.specs.States.{MemberState}
 
 -- the node performs a call, which is recorded
@@ -40,9 +36,6 @@ pub record Meets (by : By) (bearer place : ℕ) (bytes : List ℕ) (m m' : Membe
 -- An event happens at a node, as the call of that caller, call number and stamp where it is one that is recorded; of an arrival, these are
 -- the bytes of the frame.
 abbrev pub HasEffect : By → WorldEvent → List ℕ → MemberState → MemberState → List Outgoing → Answer → Type 0
-HasEffect by (Know node peer bearer) bytes m m' frames answered = (m' ≡ known_member m peer bearer)
-    × (frames ≡ known_frames m.node peer bearer) × (answered ≡ answer.Done) × (peer < length m.node.neighbours) × IsTold m'.node × SharesNames m'.node
-    × All (IsRouted (known_node m.node peer bearer)) (known_frames m.node peer bearer)
 HasEffect by (Restart node) bytes m m' frames answered = IsRestarted m m' × (frames ≡ []) × (answered ≡ answer.Done)
 HasEffect by (Call node call) bytes m m' frames answered = Makes by call m m' frames answered
 HasEffect by (Arrive node bearer place) bytes m m' frames answered = Meets by bearer place bytes m m' frames answered

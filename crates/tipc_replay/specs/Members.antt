@@ -7,7 +7,8 @@ use Rattle.tipc_header.specs.Reading.{word_at}
 use Rattle.tipc_link.specs.Links.{LinkEnd}
 use Rattle.tipc_link.specs.Sessions.{SessionEnd}
 use Rattle.tipc_sockets.specs.SocketTables.{no_sockets}
-use Rattle.tipc_node.specs.Nodes.{NodeState, known_node, neighbour_of}
+use Rattle.tipc_node.specs.Finding.{nobody_heard}
+use Rattle.tipc_node.specs.Nodes.{NodeState, neighbour_of}
 use Rattle.tipc_node.specs.Sharing.{SharesNames}
 use Rattle.tipc_node.specs.Telling.{IsTold}
 use Rattle.tipc_replay.specs.Readers.{node_number}
@@ -74,17 +75,16 @@ arrived_member m n sender bearer frame = record {
   counts = noted m.counts (over_with m sender bearer);
 }
 
--- ---- a node comes to know a peer, is restarted, or comes in
+-- ---- a node is restarted, or comes in
 
--- the node has come to know a peer on a bearer
-abbrev pub known_member : MemberState → ℕ → ℕ → MemberState
-known_member m peer bearer = record m { node = known_node m.node peer bearer }
-
--- a node at the beginning of a boot: it knows nobody, and has no sockets and no history, which is what its journal tells
+-- a node at the beginning of a boot: it heard and knows nobody, no tick has passed, and it has no sockets and no history, which is what its
+-- journal tells
 pub record IsFresh (n : NodeState) (own boot : ℕ) : Type 0 where
   pub own_is : n.own ≡ own
   pub boot_is : n.boot ≡ boot
   pub cut : n.mended ≡ (false, false)
+  pub unheard : n.found ≡ nobody_heard own
+  pub unticked : n.ticks ≡ 0
   pub alone : (peer : ℕ) → neighbour_of n peer ≡ None
   pub sockets : n.sockets ≡ no_sockets own boot
   pub no_history : n.journal ≡ []

@@ -175,11 +175,7 @@ flow_in members a b contact =
 unfoldable pub flow_of : List (Option MemberState) → ℕ → ℕ → Option FlowCounts
 flow_of members a b = option_map (flow_in members a b) (contact_at members a b)
 
--- whether there is a link end at node a to node b on a bearer
-abbrev pub knows : List (Option MemberState) → ℕ → ℕ → ℕ → Bool
-knows members a b bearer = is_some (link_at members a b bearer)
-
--- whether there is one, and it is up
+-- whether there is a link end at node a to node b on a bearer, and it is up
 abbrev pub is_link_up_at : List (Option MemberState) → ℕ → ℕ → ℕ → Bool
 is_link_up_at members a b bearer = is_up_in (link_at members a b bearer)
 

@@ -8,15 +8,6 @@ use tipc_types::EventNote;
 /// What may happen to a node.
 #[derive(Clone, Debug, Drop, PartialEq)]
 pub enum WorldEvent {
-    /// A node comes to know another on a bearer: it makes its link end to it there.
-    Know {
-        /// The node's number.
-        node: u8,
-        /// The other's number.
-        peer: u8,
-        /// The bearer, 0 or 1.
-        bearer: u8,
-    },
     /// A node is restarted: it keeps nothing, its bearers are cut, and its boot number is the next one.
     Restart {
         /// The node's number.
@@ -46,19 +37,17 @@ impl WorldEvent {
         ensures { result ≡ node_of self.now }
     {
         match self {
-            WorldEvent::Know { node, .. } => *node,
             WorldEvent::Restart { node } => *node,
             WorldEvent::Call { node, .. } => *node,
             WorldEvent::Arrive { node, .. } => *node,
         }
     }
 
-    /// Whether the node's journal records it as a call: coming to know a peer isn't one, and a restart isn't.
+    /// Whether the node's journal records it as a call: a restart alone isn't one.
     pub fn is_recorded(&self) -> bool
         ensures { result ≡ is_recorded self.now }
     {
         match self {
-            WorldEvent::Know { .. } => false,
             WorldEvent::Restart { .. } => false,
             WorldEvent::Call { .. } => true,
             WorldEvent::Arrive { .. } => true,
@@ -70,7 +59,6 @@ impl WorldEvent {
         ensures { result ≡ may_end_contact self.now }
     {
         match self {
-            WorldEvent::Know { .. } => true,
             WorldEvent::Restart { .. } => true,
             WorldEvent::Call { node: _, call } => !is_of_user(call),
             WorldEvent::Arrive { .. } => true,

@@ -2,6 +2,7 @@
 
 ghost use Rattle.std.specs.Prelude.{◌≡◌, ◌+◌, ◌<◌, ◌≤◌, [], ℕ, true, false, None, length, map, option_and_then, option_map, IfErr, IfOk, OnErr, OnOk};
 ghost use Rattle.indexmap.specs.IndexMap.{spare};
+ghost use Rattle.tipc_types.specs.Address.{node_word};
 ghost use Rattle.tipc_header.specs.Reading.{word_at};
 ghost use Rattle.tipc_journal.specs.Matches.{names};
 ghost use Rattle.tipc_journal.specs.Streams.{accepted, delivered};
@@ -9,14 +10,14 @@ ghost use Rattle.tipc_link.specs.Links.{numbered_in};
 ghost use Rattle.tipc_pair.specs.Facing.{contact_between, is_up_at, state_of, states_of};
 ghost use Rattle.tipc_pair.specs.PairCalls.{last_count_of};
 ghost use Rattle.tipc_node.specs.Calls.{CanPerform};
-ghost use Rattle.tipc_node.specs.Nodes.{contact_with, end_with, is_mended_on, node_load, neighbour_of};
+ghost use Rattle.tipc_node.specs.Nodes.{is_mended_on, node_load};
 ghost use Rattle.tipc_journal.specs.Room.{has_journal_room};
 ghost use Rattle.tipc_node.specs.Turns.{pair_in};
 ghost use Rattle.tipc_replay.specs.Choices.{Chooses};
 ghost use Rattle.tipc_replay.specs.Calls.{is_recorded, CallStops, CanDo, RecordStops};
 ghost use Rattle.tipc_replay.specs.Effects.{Did};
 ghost use Rattle.tipc_replay.specs.Events.{IsSettledAt};
-ghost use Rattle.tipc_replay.specs.Members.{last_in, noted, noted_both, over_in, over_with, sender_of, AreNoted, IsNewcomer, IsRestarted};
+ghost use Rattle.tipc_replay.specs.Members.{last_in, noted, noted_both, over_in, over_with, sender_of, AreNoted, IsFresh, IsNewcomer, IsRestarted};
 ghost use Rattle.tipc_replay.specs.Numbers.{own_in, seen_in};
 ghost use Rattle.tipc_replay.specs.States.{count_in, count_of, counted, history, joined, link_in, stream_of};
 
@@ -202,6 +203,17 @@ fn delivered_in(journals: &[Journal], peer: u8, contact: (u64, u64)) -> u64
     count
 }
 
+/// The node of a number, which has just begun this boot.
+fn node_in(alloc: Global, n: u8, boot: u32) -> Result<Node, NoMemory>
+    requires number { (1 ≤ n) × (n ≤ 32) }
+    requires boot { 1 ≤ boot }
+    ensures { IfOk result (λ node. IsFresh node (node_word n) boot) }
+{
+    let address = Addr::node(n);
+    let node = Node::new(alloc, address, boot)?;
+    Ok(node)
+}
+
 impl Member {
     /// A node that has just begun this boot.
     pub fn new(alloc: Global, n: u8, boot: u32) -> Result<Member, NoMemory>
@@ -210,7 +222,7 @@ impl Member {
         ensures { IfOk result (λ m. IsNewcomer m n boot) }
     {
         Ok(Member {
-            node: Node::new(alloc, Addr::node(n), boot)?,
+            node: node_in(alloc, n, boot)?,
             past: Vec::new(alloc),
             calls: 0,
             arrivals: Vec::new(alloc),
@@ -381,18 +393,6 @@ impl Member {
         self.node.names()
     }
 
-    /// Comes to know a peer on a bearer.
-    pub fn know(&mut self, alloc: Global, peer: u8, bearer: u8, out: &mut Outbox) -> Answer
-        requires peer { (1 ≤ peer) × (peer ≤ 32) }
-        requires bearer { bearer ≤ 1 }
-        requires alone { end_with bearer (neighbour_of self.old.node peer) ≡ None }
-        ensures { (by : By) (node : ℕ) →
-            Did by (WorldEvent.Know node peer bearer) [] self.old self.new out.old out.new result }
-    {
-        self.node.know(alloc, peer, bearer, out);
-        Answer::Done
-    }
-
     /// Performs a call, for which the chooser says to which match a message by name goes.
     pub fn perform<P: Pick>(
         &mut self,
@@ -425,9 +425,9 @@ impl Member {
         ensures full { IfErr result (λ fault. fault ≡ NodeFault.NoMemory) }
         ensures err { OnErr result (self.new ≡ self.old) }
     {
-        let next = Node::new(alloc, self.node.own(), self.node.boot() + 1)?;
         self.past.reserve(1)?;
         self.counts.reserve(66)?;
+        let next = Node::new(alloc, self.node.own(), self.node.boot() + 1)?;
         note_all(&mut self.counts, &self.node);
         let last = std::mem::replace(&mut self.node, next);
         self.past.push_reserved(last.into_journal());
@@ -499,11 +499,6 @@ impl Member {
         ensures err { OnErr result ((self.new ≡ self.old) × (out.new ≡ out.old) × (chooser.new ≡ chooser.old)) }
     {
         match event {
-            WorldEvent::Know {
-                node: _,
-                peer,
-                bearer,
-            } => Ok(self.know(alloc, peer, bearer, out)),
             WorldEvent::Restart { .. } => self.restart(alloc),
             WorldEvent::Call { node: _, call } => self.perform(alloc, by, call, chooser, out),
             WorldEvent::Arrive { .. } => unreachable!(),

@@ -1,6 +1,6 @@
 //! What is told of nodes and the air between them. None of these takes memory but `links` and `table`.
 
-ghost use Rattle.std.specs.Prelude.{◌≡◌, ◌<◌, ◌≤◌, ◌+◌, ◌^◌, ◌++◌, [], ℕ, Some, None, length, is_some, map, nat_lt, slice_get, slice_index_or, option_map, IfOk, IfSome, OnErr, OnOk};
+ghost use Rattle.std.specs.Prelude.{◌≡◌, ◌<◌, ◌≤◌, ◌+◌, ◌^◌, ◌++◌, [], Some, None, length, is_some, map, nat_lt, slice_get, option_map, IfOk, IfSome, OnOk};
 ghost use Rattle.std.specs.Option.{option_copied};
 ghost use Rattle.tipc_pair.specs.Facing.{state_of, states_of};
 ghost use Rattle.tipc_types.specs.declared.message_forms.Flow.TheVariants.{Zero};
@@ -8,7 +8,7 @@ ghost use Rattle.tipc_replay.specs.Readers.{link_shown, links_of, world_load, no
 ghost use Rattle.tipc_replay.specs.Calls.{counts_at, CanHappenAt};
 ghost use Rattle.tipc_replay.specs.Due.{frame_for};
 ghost use Rattle.tipc_replay.specs.Skies.{air_on, air_size};
-ghost use Rattle.tipc_replay.specs.States.{accepted_at, arrivals_at, calls_recorded, counted, delivered_at, flow_of, is_mended_at, has_member, is_link_up_at, knows, link_at, node_at, pair_at, past_at};
+ghost use Rattle.tipc_replay.specs.States.{accepted_at, arrivals_at, calls_recorded, counted, delivered_at, flow_of, is_mended_at, has_member, is_link_up_at, link_at, node_at, pair_at, past_at};
 
 use crate::air::{Arrived, Sent};
 use crate::events::WorldEvent;
@@ -243,13 +243,6 @@ impl Replay {
         ensures { result ≡ flow_of self.now.members a b }
     {
         flow_at(&self.members, a, b)
-    }
-
-    /// Whether node `a` has a link end to node `b` on a bearer.
-    pub fn knows(&self, a: u8, b: u8, bearer: u8) -> bool
-        ensures { result ≡ knows self.now.members a b bearer }
-    {
-        link_at(&self.members, a, b, bearer).is_some()
     }
 
     /// Whether the link end at node `a` to node `b` on a bearer is up.

@@ -1,5 +1,7 @@
-//! A test of nodes and the air between them. It stands apart, so that its proof begins with what the crates below have proved.
+//! Tests of a node, and of nodes and the air between them. They stand apart, so that their proof begins with what the crates below have proved.
 #![tactic(auto)]
 
+#[cfg(test)]
+mod hearing;
 #[cfg(test)]
 mod replay;

@@ -10,7 +10,7 @@ use tipc_journal::Entry;
 use tipc_pick::{Chooser, RoundRobin};
 use tipc_replay::{Replay, WorldEvent};
 use tipc_types::{
-    Addr, Answer, Body, By, EventNote, Importance, Message, PortId, Scope, ServiceRange, To,
+    Addr, Answer, Body, By, EventNote, Importance, Message, PortId, Scope, ServiceRange,
 };
 
 /// Who makes all calls.
@@ -49,24 +49,6 @@ impl Run {
         by
     }
 
-    /// A node comes to know the other one on bearer 0.
-    fn know(&mut self, alloc: Global, node: u8, peer: u8) -> Result<(), Fail> {
-        let by = self.by();
-        if node == peer || !self.replay.has_node(node) || !self.replay.has_node(peer) {
-            return Err(Fail::new("the two aren't there"));
-        }
-        if self.replay.knows(node, peer, 0) {
-            return Err(Fail::new("the nodes aren't strangers"));
-        }
-        let event = WorldEvent::Know {
-            node,
-            peer,
-            bearer: 0,
-        };
-        self.replay.step(alloc, event, by, &mut self.chooser)?;
-        Ok(())
-    }
-
     /// A node makes a call.
     fn call(&mut self, alloc: Global, node: u8, call: EventNote) -> Result<Answer, Fail>
         requires { CanPerform call }
@@ -79,20 +61,16 @@ impl Run {
         Ok(self.replay.step(alloc, event, by, &mut self.chooser)?)
     }
 
-    /// The frame at a place of bearer 0's air arrives where it is for.
-    fn arrive(&mut self, alloc: Global, place: u64) -> Result<(), Fail> {
+    /// The frame at a place of bearer 0's air arrives at a node, where it is for it.
+    fn arrive_at(&mut self, alloc: Global, node: u8, place: u64) -> Result<(), Fail>
+        requires number { (1 ≤ node) × (node ≤ 32) }
+    {
         let by = self.by();
-        let Some(frame) = self.replay.frame(0, place) else {
-            return Err(Fail::new("there is no such frame"));
-        };
-        let To::Node(address) = frame.to else {
-            return Err(Fail::new("the frame is for all"));
-        };
-        let Some(node) = address.number() else {
-            return Err(Fail::new("the frame is for no node"));
-        };
         if !self.replay.has_node(node) {
             return Err(Fail::new("the receiver isn't there"));
+        }
+        if !self.replay.is_for(node, 0, place) {
+            return Ok(());
         }
         let event = WorldEvent::Arrive {
             node,
@@ -101,6 +79,12 @@ impl Run {
         };
         self.replay.step(alloc, event, by, &mut self.chooser)?;
         Ok(())
+    }
+
+    /// The frame at a place of bearer 0's air arrives at each node that it is for.
+    fn arrive(&mut self, alloc: Global, place: u64) -> Result<(), Fail> {
+        self.arrive_at(alloc, 1, place)?;
+        self.arrive_at(alloc, 2, place)
     }
 
     /// Both nodes tick, and then what is in the air of bearer 0 arrives, round by round.
@@ -117,7 +101,7 @@ impl Run {
         Ok(())
     }
 
-    /// Node 1, in its first boot, and node 2, in its third, with a link on bearer 0.
+    /// Node 1, in its first boot, and node 2, in its third, which find each other on bearer 0 and have a link there.
     fn linked(alloc: Global) -> Result<Run, Fail> {
         let mut run = Run {
             replay: Replay::new(alloc),
@@ -127,8 +111,6 @@ impl Run {
         };
         run.add(alloc, 1, 1)?;
         run.add(alloc, 2, 3)?;
-        run.know(alloc, 1, 2)?;
-        run.know(alloc, 2, 1)?;
         run.call(alloc, 1, EventNote::Mend { bearer: 0 })?;
         run.call(alloc, 2, EventNote::Mend { bearer: 0 })?;
         run.settle(alloc)?;

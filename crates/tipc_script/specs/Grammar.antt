@@ -41,7 +41,7 @@ tick_row = record { word = codes "tick"; kinds = λ left. OldNode ∷ []; asks =
 abbrev pub restart_row : Row
 restart_row = record { word = codes "restart"; kinds = λ left. OldNode ∷ []; asks = λ node. line.Restart (first_number node) }
 
--- `link a b x`: nodes a and b come to know each other on bearer x, and their frames arrive
+-- `link a b x`: bearer x is mended at nodes a and b where it is cut, and the frames that this sends arrive at the two
 abbrev pub link_row : Row
 link_row = record {
   word = codes "link";

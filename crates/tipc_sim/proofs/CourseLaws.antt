@@ -1,13 +1,15 @@
 -- What becomes of an air by a course, and a link that is stopped.
-use Rattle.std.proofs.Common.{◌≡◌, ℕ, ◌≤◌, max, Bool, Option, Some, None, List, Ok, Err, length, ap, subst, sym, ◌∙◌, arith, false}
+use Rattle.std.proofs.Common.{◌≡◌, ℕ, ◌≤◌, max, Bool, Option, Some, None, Ok, Err, length, ap, subst, sym, ◌∙◌, arith, false}
 use Rattle.tipc_types.specs.declared.node_calls.Answer.{Answer}
+use Rattle.tipc_types.specs.declared.node_calls.EventNote.TheVariants as call
 use Rattle.tipc_replay.specs.declared.events.WorldEvent.{WorldEvent}
+use Rattle.tipc_replay.specs.declared.events.WorldEvent.TheVariants as event
 use Rattle.tipc_world.specs.declared.faults.WorldFault.{WorldFault}
-use Rattle.tipc_world.specs.Courses.{Asks, Goes, Maybe, begin, go_on}
+use Rattle.tipc_world.specs.Courses.{Asks, Goes, Maybe, Once, begin, go_on}
 use Rattle.tipc_replay.specs.Skies.{air_on}
 use Rattle.tipc_replay.specs.States.{is_mended_at}
 use Rattle.tipc_world.specs.States.{WorldState}
-use Rattle.tipc_sim.specs.Meanings.{JoinsFrom, Links, Mends, MendsCut, MendsIf}
+use Rattle.tipc_sim.specs.Meanings.{Links, LinksFrom, MendsCut, MendsIf}
 use Rattle.tipc_sim.proofs.WorldLaws.{answered_few}
 
 -- ---- the air
@@ -25,16 +27,16 @@ goes_few bearer asks first start _ _ _ (go_on next count before made now goes ta
 -- ---- a link
 
 -- a cut bearer of a node was mended
-pub mends_cut_comes : (named : List (ℕ × ℕ)) (node bearer : ℕ) (start now : WorldState) (answer : Answer) (mended : Bool) → mended ≡ is_mended_at start.members node bearer → mended ≡ false
-    → Mends named node bearer start (Ok answer) now → MendsCut named node bearer start (Ok tt) now
-mends_cut_comes named node bearer start now answer mended is cut h = subst (λ b. MendsIf b named node bearer start (Ok tt) now) (sym cut ∙ is) (answer, h)
+pub mends_cut_comes : (node bearer : ℕ) (start now : WorldState) (answer : Answer) (mended : Bool) → mended ≡ is_mended_at start.members node bearer → mended ≡ false
+    → Once (event.Call node (call.Mend bearer)) start (Ok answer) now → MendsCut node bearer start (Ok tt) now
+mends_cut_comes node bearer start now answer mended is cut h = subst (λ b. MendsIf b node bearer start (Ok tt) now) (sym cut ∙ is) (answer, h)
 
--- an event was stopped by which a cut bearer of a node is mended
-pub mends_cut_halts : (named : List (ℕ × ℕ)) (node bearer : ℕ) (start now : WorldState) (f : WorldFault) (mended : Bool) → mended ≡ is_mended_at start.members node bearer → mended ≡ false → Mends named node bearer start (Err f) now
-    → MendsCut named node bearer start (Err f) now
-mends_cut_halts named node bearer start now stop mended is cut h = subst (λ b. MendsIf b named node bearer start (Err stop) now) (sym cut ∙ is) h
+-- the event was stopped by which a cut bearer of a node is mended
+pub mends_cut_halts : (node bearer : ℕ) (start now : WorldState) (f : WorldFault) (mended : Bool) → mended ≡ is_mended_at start.members node bearer → mended ≡ false → Once (event.Call node (call.Mend bearer)) start (Err f) now
+    → MendsCut node bearer start (Err f) now
+mends_cut_halts node bearer start now stop mended is cut h = subst (λ b. MendsIf b node bearer start (Err stop) now) (sym cut ∙ is) h
 
 -- an event of a link stopped
-pub links_halt : (named : List (ℕ × ℕ)) (first second bearer place : ℕ) (start now : WorldState) (f : WorldFault) → place ≡ length (air_on bearer start.air)
-    → JoinsFrom place named first second bearer start (Err f) now → Links named first second bearer start (Err f) now
-links_halt named first second bearer place start now stop is came = subst (λ k. JoinsFrom k named first second bearer start (Err stop) now) is came
+pub links_halt : (first second bearer place : ℕ) (start now : WorldState) (f : WorldFault) → place ≡ length (air_on bearer start.air)
+    → LinksFrom place first second bearer start (Err f) now → Links first second bearer start (Err f) now
+links_halt first second bearer place start now stop is came = subst (λ k. LinksFrom k first second bearer start (Err stop) now) is came

@@ -23,7 +23,6 @@ use Rattle.tipc_sim.specs.Noted.{NotesState}
 -- a message that can be sent can be sent later
 pub send_can : {P : Type 0} {gives : P → ℕ → ℕ → ℕ → Type 0} (old new : WorldView P) (send : WorldEvent) → Continues gives old new → is_call send ≡ true → CanHappen old.state send → CanHappen new.state send
 send_can old new (event.Call node call) continues e can = (continues.nodes node ∙ can.0, can.1)
-send_can old new (event.Know node peer bearer) continues e can = absurd cc
 send_can old new (event.Restart node) continues e can = absurd cc
 send_can old new (event.Arrive node bearer place) continues e can = absurd cc
 

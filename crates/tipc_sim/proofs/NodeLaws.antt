@@ -206,6 +206,7 @@ subscribe_can w node kind lower upper timeout filter event there e =
 
 -- the event that a line is can happen where the line can be done
 pub can_happen : (w : WorldState) (notes : NotesState) (line : Line) (event : WorldEvent) → CanBeDone (is_there w) line → event_of line notes ≡ Some event → CanHappen w event
+can_happen w notes (Mend node bearer) event can e = subst (CanHappen w) (inside e) (can.0, can.1)
 can_happen w notes (Cut node bearer) event can e = subst (CanHappen w) (inside e) (can.0, can.1)
 can_happen w notes (Tick node) event can e = subst (CanHappen w) (inside e) (can, tt)
 can_happen w notes (Restart node) event can e = subst (CanHappen w) (inside e) can
@@ -222,7 +223,6 @@ can_happen w notes (Arrive node bearer frame) event can e = subst (CanHappen w) 
 can_happen w notes (Receive node port) event can e = subst (CanHappen w) (inside e) (can, tt)
 can_happen w notes Nothing event can e = absurd cc
 can_happen w notes (Node node) event can e = absurd cc
-can_happen w notes (Mend node bearer) event can e = absurd cc
 can_happen w notes (Link first second bearer) event can e = absurd cc
 can_happen w notes Mark event can e = absurd cc
 can_happen w notes (Repeat times node port to importance body) event can e = absurd cc

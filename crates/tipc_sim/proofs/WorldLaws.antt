@@ -46,6 +46,5 @@ arrival_few x old new node bearer place answer (Some why) is answered =
 -- after an event the air of a bearer is within the limit, or as long as it was
 pub answered_few : (x : ℕ) (old : WorldState) (event : WorldEvent) (new : WorldState) (answer : Answer) → IsAnswered old event new answer → length (air_on x new.air) ≤ max 100000 (length (air_on x old.air))
 answered_few x old (event.Arrive node bearer place) new answer answered = arrival_few x old new node bearer place answer _ refl answered
-answered_few x old (event.Know node peer bearer) new answer answered = few_on x (length (air_on x old.air)) new.air (answered.within refl)
 answered_few x old (event.Call node call) new answer answered = few_on x (length (air_on x old.air)) new.air (answered.within refl)
 answered_few x old (event.Restart node) new answer answered = few_on x (length (air_on x old.air)) new.air (answered.within refl)

@@ -35,10 +35,10 @@ use Rattle.tipc_world.specs.Steps.{IsJoined}
 use Rattle.tipc_world.specs.declared.places.Places.{Places}
 use Rattle.tipc_world.specs.Courses.{Course, IsEarly, Once}
 use Rattle.tipc_world.specs.Ends.{ends_of, place_on}
-use Rattle.tipc_sim.specs.Meanings.{Mends, Links as LinksUp, Pumps, SettlesLine}
+use Rattle.tipc_sim.specs.Meanings.{Links as LinksUp, Pumps, SettlesLine}
 use Rattle.tipc_sim.specs.Messages.{low_message, Bursts, ReceivesAll, SendsAgain}
 use Rattle.tipc_sim.specs.Nodes.{makes}
-use Rattle.tipc_sim.specs.Noted.{NotesState, marked, naming, pumped, pumped_to, with_named}
+use Rattle.tipc_sim.specs.Noted.{NotesState, marked, pumped, pumped_to}
 
 -- a world, and what the script keeps beside it
 pub record Scene : Type 0 where
@@ -87,6 +87,7 @@ service_event other = subscription_event other
 
 -- the event that a line is; None for a line that is no event or several
 abbrev pub event_of : Line → NotesState → Option WorldEvent
+event_of (Mend node bearer) notes = Some (event.Call node (call.Mend bearer))
 event_of (Cut node bearer) notes = Some (event.Call node (call.Cut bearer))
 event_of (Tick node) notes = Some (event.Call node call.Tick)
 event_of (Restart node) notes = Some (event.Restart node)
@@ -174,10 +175,8 @@ Conversed other notes start came now = Stays (told_of other notes start) notes s
 -- what becomes of a world by a line that isn't one event
 abbrev pub Composed : Line → NotesState → Course Outcome
 Composed (Node node) notes start came now = ComesIn node notes start came now
-Composed (Mend node bearer) notes start came now = Answered (Mends notes.named node bearer) notes start came now
-Composed (Link first second bearer) notes start came now =
-    Retells (LinksUp (naming notes.named first second) first second bearer) (with_named notes (naming notes.named first second)) start came now
-Composed Mark notes start came now = Stays (told.Answer answer.Done) (marked notes (ends_of now.air)) start came now
+Composed (Link first second bearer) notes start came now = Retells (LinksUp first second bearer) notes start came now
+Composed Mark notes start came now = Stays (told.Answer answer.Done) (marked (ends_of now.air)) start came now
 Composed (Pump bearer) notes start came now = Retells (Pumps bearer (place_on bearer notes.places)) (pumped notes bearer (length (air_on bearer now.air))) start came now
 Composed (Settle rounds) notes start came now = Retells (SettlesLine rounds) notes start came now
 Composed other notes start came now = Conversed other notes start came now

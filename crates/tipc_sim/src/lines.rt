@@ -1,6 +1,6 @@
 //! A line is read in its world, and what it asks for is done.
 
-ghost use Rattle.std.specs.Prelude.{◌≡◌, ◌+◌, ◌<◌, ◌≤◌, ◌^◌, ◌==◌, ◌||◌, ℕ, true, false, length, slice_get, IfErr, IfOk, OnOk, find};
+ghost use Rattle.std.specs.Prelude.{◌≡◌, ◌+◌, ◌<◌, ◌≤◌, ◌^◌, ◌||◌, ℕ, true, length, slice_get, IfErr, IfOk, OnOk, find};
 ghost use Rattle.tipc_report.specs.Text.{told_line};
 ghost use Rattle.tipc_world.specs.Events.{CanHappen};
 ghost use Rattle.tipc_replay.specs.Skies.{air_on};
@@ -14,14 +14,14 @@ ghost use Rattle.tipc_sim.specs.Nodes.{is_misplaced, fault_where, makes, CanBeDo
 ghost use Rattle.tipc_world.specs.Courses.{Continues};
 ghost use Rattle.tipc_world.specs.Ends.{place_on};
 ghost use Rattle.tipc_sim.specs.Happenings.{beside, event_of, filter_number, scene, sending, service_event, shown, subscription_event, told_of, told_of_flow, wished, Answers, Composed, Conversed, IsBegun, IsLimited, Moves, Repeated};
-ghost use Rattle.tipc_sim.specs.Meanings.{Links, Pumps};
+ghost use Rattle.tipc_sim.specs.Meanings.{Pumps};
 ghost use Rattle.tipc_sim.specs.Messages.{is_call, low_message, Bursts, SendsAgain};
-ghost use Rattle.tipc_sim.specs.Noted.{naming, pumped, with_named, NotesState};
+ghost use Rattle.tipc_sim.specs.Noted.{pumped, NotesState};
 ghost use Rattle.tipc_world.specs.declared.faults.Limit.{Limit};
 ghost use Rattle.tipc_sim.specs.Steps.{IsAnswered};
 
 use crate::frames::{make, pump, settle};
-use crate::linking::{link, mend};
+use crate::linking::link;
 use crate::messages::{Socket, burst, receive_all, repeat};
 use crate::notes::Notes;
 use std::alloc::Global;
@@ -204,6 +204,7 @@ fn event_of(line: Line, notes: &Notes) -> Result<WorldEvent, Line>
     ensures other { IfErr result (λ other. (other ≡ line) × (event_of line notes.now ≡ None)) }
 {
     match line {
+        Line::Mend { node, bearer } => Ok(call(node, EventNote::Mend { bearer })),
         Line::Cut { node, bearer } => Ok(call(node, EventNote::Cut { bearer })),
         Line::Tick { node } => Ok(call(node, EventNote::Tick)),
         Line::Restart { node } => Ok(WorldEvent::Restart { node }),
@@ -227,26 +228,6 @@ fn event_of(line: Line, notes: &Notes) -> Result<WorldEvent, Line>
         Line::Receive { node, port } => Ok(call(node, EventNote::Receive { port })),
         other => service_event(other),
     }
-}
-
-/// Names two nodes as a pair and links them on a bearer.
-fn link_named<P: Pick>(
-    alloc: Global,
-    first: u8,
-    second: u8,
-    bearer: u8,
-    world: &mut World<P>,
-    notes: &mut Notes,
-) -> Result<Told, WorldFault>
-    requires first { is_there world.old.state first ≡ true }
-    requires second { is_there world.old.state second ≡ true }
-    requires bearer { bearer ≤ 1 }
-    ensures comes { Links (naming notes.old.named first second) first second bearer world.old.state result world.new.state }
-    ensures noted { OnOk result (notes.new ≡ with_named notes.old (naming notes.old.named first second)) }
-    ensures continues { Continues P.gives world.old world.new }
-{
-    notes.name(first, second)?;
-    link(alloc, notes, first, second, bearer, world)
 }
 
 /// Pumps the frames of a bearer that aren't pumped yet.
@@ -431,15 +412,11 @@ fn compose<P: Pick>(
             world.add_node(alloc, node)?;
             Told::Answer(Answer::Done)
         }
-        Line::Mend { node, bearer } => {
-            let answer = mend(alloc, notes, node, bearer, world)?;
-            Told::Answer(answer)
-        }
         Line::Link {
             first,
             second,
             bearer,
-        } => link_named(alloc, first, second, bearer, world, notes)?,
+        } => link(alloc, first, second, bearer, world)?,
         Line::Mark => {
             notes.mark(world.ends());
             Told::Answer(Answer::Done)

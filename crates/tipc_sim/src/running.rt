@@ -1,6 +1,6 @@
 //! The run of a script: each line is done and answered, until the last or a fault.
 
-ghost use Rattle.std.specs.Prelude.{ℕ, ◌≡◌, ◌⊎◌, ◌<◌, ◌≤◌, ◌^◌, ◌↔◌, OnOk, OnErr, IfErr, IfOk, IfSome, IsErrOf, Err, Some, None, [], length, map, true, false};
+ghost use Rattle.std.specs.Prelude.{ℕ, ◌≡◌, ◌⊎◌, ◌<◌, ◌≤◌, ◌^◌, ◌↔◌, OnOk, OnErr, IfErr, IfOk, IfSome, IsErrOf, Err, Some, [], length, map, true, false};
 ghost use Rattle.std.specs.String.{string_bytes};
 ghost use Rattle.std.specs.Io.KnownBytes.{Appends};
 ghost use Rattle.tipc_outside.specs.Causes.{Rose};
@@ -181,7 +181,7 @@ fn run_lines<K: Sink, P: Pick>(
     ensures failed { result ≡ Status.WriteFault → Rose (K.faults sink.old) (K.faults sink.new) ⊎
         Rose (K.stalls sink.old) (K.stalls sink.new) }
 {
-    let mut notes = Notes::new(alloc);
+    let mut notes = Notes::new();
     let mut rest = script;
     let mut done = 0;
     while !rest.is_empty() {

@@ -5,7 +5,7 @@ use Rattle.tipc_types.specs.declared.node_calls.Answer.{Answer}
 use Rattle.tipc_types.specs.declared.node_calls.By.{By}
 use Rattle.tipc_outside.specs.declared.outgoing.Outgoing.{Outgoing}
 use Rattle.tipc_replay.specs.declared.events.WorldEvent.{WorldEvent}
-use Rattle.tipc_replay.specs.declared.events.WorldEvent.TheVariants.{Know, Restart, Call, Arrive}
+use Rattle.tipc_replay.specs.declared.events.WorldEvent.TheVariants.{Restart, Call, Arrive}
 use Rattle.tipc_replay.specs.Calls.{counts_at, HasNextBoot}
 use Rattle.tipc_replay.specs.Effects.{HasEffect}
 use Rattle.tipc_replay.specs.Due.{unarrived}
@@ -29,7 +29,6 @@ stays : (m m' : MemberState) → m'.node.boot ≡ m.node.boot → IsNext m m'
 stays m m' same = omega (arith, same)
 
 does_boot : (by : By) (event : WorldEvent) (bytes : List ℕ) (m m' : MemberState) (frames : List Outgoing) (answered : Answer) → HasEffect by event bytes m m' frames answered → IsNext m m'
-does_boot by (Know node peer bearer) bytes m m' frames answered h = stays m m' (ap (λ (x : MemberState). x.node.boot) h.0)
 does_boot by (Restart node) bytes m m' frames answered h = let next = h.0.node.boot_is in omega (arith, next)
 does_boot by (Call node call) bytes m m' frames answered h = stays m m' h.turn.turn.boot
 does_boot by (Arrive node bearer place) bytes m m' frames answered h = stays m m' h.turn.turn.boot
@@ -95,7 +94,6 @@ arrival_boots old new by node bearer place answered lost most None e h below =
 
 becomes_boots : (old new : Stage) (by : By) (event : WorldEvent) (answered : Answer) (lost : Bool) (most : ℕ) → Becomes old by event new answered lost → BootsBelow old.members most → BootsBelow new.members (most + 1)
 becomes_boots old new by (Arrive node bearer place) answered lost most h below = arrival_boots old new by node bearer place answered lost most _ refl h below
-becomes_boots old new by (Know node peer bearer) answered lost most h below = happens_boots old new by (Know node peer bearer) [] answered lost most h below
 becomes_boots old new by (Restart node) answered lost most h below = happens_boots old new by (Restart node) [] answered lost most h below
 becomes_boots old new by (Call node call) answered lost most h below = happens_boots old new by (Call node call) [] answered lost most h below
 
@@ -107,7 +105,6 @@ arrival_still old new by node bearer place answered lost (Some why) e none h = a
 
 becomes_still : (old new : Stage) (by : By) (event : WorldEvent) (answered : Answer) (lost : Bool) → Becomes old by event new answered lost → counts_at old.members old.air event ≡ false → new.members ≡ old.members
 becomes_still old new by (Arrive node bearer place) answered lost h none = arrival_still old new by node bearer place answered lost _ refl none h
-becomes_still old new by (Know node peer bearer) answered lost h none = absurd cc
 becomes_still old new by (Restart node) answered lost h none = absurd cc
 becomes_still old new by (Call node call) answered lost h none = absurd cc
 
@@ -128,7 +125,6 @@ next_boot members events stamps (Restart node) steady = λ m there.
     let boot = steady.boots node m there in
     let few = steady.few in
     omega (arith, boot, few)
-next_boot members events stamps (Know node peer bearer) steady = tt
 next_boot members events stamps (Call node call) steady = tt
 next_boot members events stamps (Arrive node bearer place) steady = tt
 

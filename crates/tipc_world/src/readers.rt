@@ -1,10 +1,10 @@
 //! What is told of a world. None of these takes memory but `links` and `table`.
 
-ghost use Rattle.std.specs.Prelude.{◌≡◌, ◌<◌, ◌≤◌, ◌^◌, ℕ, length, map, slice_get, IfOk};
+ghost use Rattle.std.specs.Prelude.{◌≡◌, ◌<◌, ◌≤◌, ◌^◌, length, map, slice_get, IfOk};
 ghost use Rattle.std.specs.Option.{option_copied};
 ghost use Rattle.tipc_replay.specs.Readers.{links_of, world_load, table_of};
 ghost use Rattle.tipc_replay.specs.Skies.{air_on};
-ghost use Rattle.tipc_replay.specs.States.{arrivals_at, flow_of, is_mended_at, is_link_up_at, knows, node_at, past_at};
+ghost use Rattle.tipc_replay.specs.States.{arrivals_at, flow_of, is_mended_at, is_link_up_at, node_at, past_at};
 ghost use Rattle.tipc_world.specs.States.{is_there};
 
 use crate::worlds::World;
@@ -65,13 +65,6 @@ impl<P: Pick> World<P> {
         ensures { result ≡ flow_of self.now.state.members a b }
     {
         self.replay.flow(a, b)
-    }
-
-    /// Whether node `a` has a link end to node `b` on a bearer.
-    pub fn knows(&self, a: u8, b: u8, bearer: u8) -> bool
-        ensures { result ≡ knows self.now.state.members a b bearer }
-    {
-        self.replay.knows(a, b, bearer)
     }
 
     /// Whether the link end at node `a` to node `b` on a bearer is up.

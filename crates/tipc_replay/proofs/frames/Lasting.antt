@@ -22,7 +22,7 @@ use Rattle.tipc_node.specs.Turns.{IsBrought, NodeTurn, PeerTurn, pair_in}
 use Rattle.tipc_pair.proofs.turns.PairPuts.{MeetsAs, meets_contact, meets_then, puts_meet, replied_meets}
 use Rattle.tipc_replay.specs.Air.{met_in, met_sender}
 use Rattle.tipc_replay.specs.declared.events.WorldEvent.{WorldEvent}
-use Rattle.tipc_replay.specs.declared.events.WorldEvent.TheVariants.{Know, Restart, Call, Arrive}
+use Rattle.tipc_replay.specs.declared.events.WorldEvent.TheVariants.{Restart, Call, Arrive}
 use Rattle.tipc_replay.specs.declared.flying.Met.{Met}
 use Rattle.tipc_replay.specs.declared.flying.Met.TheVariants.{Lasting, Sender}
 use Rattle.tipc_replay.specs.Calls.{is_of_user, may_end_contact, node_of}
@@ -140,7 +140,6 @@ stands_before old new by event bytes box box' answered met settled did each beyo
 ]
   where
     at : (event : WorldEvent) → DidAt old new by event bytes box box' answered → met_in met b ≡ (if may_end_contact event then contact_at old (node_of event) b else None) → StandsFor old new (node_of event) met b
-    at (Know node peer bearer) did is = looked_up old new node met b is
     at (Restart node) did is = looked_up old new node met b is
     at (Arrive node bearer place) did is = looked_up old new node met b is
     at (Call node call) did is = case (is_of_user call) refl

@@ -1,13 +1,16 @@
 -- Each frame that comes into the air is of a node, and addressed by its kind.
-use Rattle.std.proofs.Common.{◌≡◌, ◌≤◌, ◌==◌, inl, inr, ℕ, zero, suc, Bool, true, false, List, [], ◌∷◌, ◌++◌, Option, filter, if◌then◌else◌, map, take, refl, sym, ap, ◌∙◌, subst}
+use Rattle.std.proofs.Common.{◌≡◌, ◌⊎◌, ◌≤◌, ◌==◌, inl, inr, ℕ, zero, suc, Bool, true, false, List, [], ◌∷◌, ◌++◌, Option, filter, if◌then◌else◌, map, take, refl, sym, ap, ◌∙◌, subst}
 use Rattle.std.specs.Prelude.{All}
 use Rattle.std.proofs.lemmas.List.Elements.{All-head, All-tail, All-take, All-weaker}
 use Rattle.tipc_types.specs.Address.{node_word}
 use Rattle.tipc_types.specs.declared.identity.Addr.{Addr}
+use Rattle.tipc_types.specs.declared.identity.To.{To}
 use Rattle.tipc_types.specs.declared.identity.To.TheVariants as to
+use Rattle.tipc_header.specs.declared.frames.FrameKind.TheVariants.{Finds}
+use Rattle.tipc_header.specs.Frames.{is_of_link, kind_in}
 use Rattle.tipc_outside.specs.declared.outgoing.Outgoing.{Outgoing}
 use Rattle.tipc_node.specs.Turns.{addr_of}
-use Rattle.tipc_replay.specs.Addressed.{IsAddressed, IsToOther, of_a_link, of_broadcast, of_discovery}
+use Rattle.tipc_replay.specs.Addressed.{IsAddressed, IsPacketOf, IsToOther, of_a_link, of_broadcast, of_discovery}
 use Rattle.tipc_link.proofs.LinkLaw.{Each, Each-append}
 use Rattle.tipc_replay.specs.declared.air.Sent.{Sent}
 use Rattle.tipc_replay.specs.Air.{IsOut, Leaves, airborne, is_on, leaving_on, with_leaving}
@@ -31,6 +34,10 @@ to_number a o address out is = by out.addressed
     by (of_discovery packet kind low (inl r)) = other r
     by (of_discovery packet kind low (inr all)) = absurd (let wrong : to.All ≡ to.Node address = sym all ∙ is in cc)
     by (of_broadcast packet kind all) = absurd (let wrong : to.All ≡ to.Node address = sym all ∙ is in cc)
+
+-- a discovery packet of a node goes to another one, or to all
+pub goes_out : (a : ℕ) (bytes : List ℕ) (t : To) → IsPacketOf a bytes → kind_in bytes ≡ Finds → is_of_link bytes ≡ false → IsToOther a t ⊎ (t ≡ to.All) → IsAddressed a bytes t
+goes_out a bytes t said kind low receivers = of_discovery said kind low receivers
 
 -- a frame in the air
 flies : (met : ℕ → Option (ℕ × ℕ)) (members : List (Option MemberState)) (a : ℕ) (o : Outgoing) → IsNumber a → IsOut a o → IsAirborne (airborne met members a o)

@@ -109,14 +109,6 @@ kept_step seen past journal pairs pairs' s h inside arrives told timed entries p
 
 -- ---- links that aren't silent for longer
 
-pub quieter_kept : (seen : Seen) (past : List (List Entry)) (journal : List Entry) (pairs pairs' : ℕ → Option PairEnds) → IsKept seen past journal pairs
-    → ((p bearer : ℕ) → silence_in (end_on bearer (pairs' p)) ≤ silence_in (end_on bearer (pairs p))) → IsKept seen past journal pairs'
-quieter_kept seen past journal pairs pairs' h quieter = record {
-  past_lawful = h.past_lawful;
-  lawful = h.lawful;
-  ticked = λ p bearer k s there heard. (let most = quieter p bearer in let before = h.ticked p bearer k s there heard in omega (arith, most, before));
-}
-
 -- ---- a boot begins
 
 pub started_kept : (seen : Seen) (past : List (List Entry)) (pairs : ℕ → Option PairEnds) → ((k : ℕ) (j : List Entry) → slice_get past k ≡ Some j → IsLawful seen j) → ((p : ℕ) → pairs p ≡ None) → IsKept seen past [] pairs

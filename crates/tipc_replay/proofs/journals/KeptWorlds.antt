@@ -1,8 +1,7 @@
 -- Every event keeps the journals of all nodes lawful, and tells how long their links were silent.
-use Rattle.std.proofs.Common.{length-append, ◌≡◌, ◌≤◌, zero, suc, ◌<◌, ◌+◌, ◌==◌, ℕ, Bool, true, false, List, [], ◌∷◌, ◌++◌, Option, Some, None, if◌then◌else◌, length, slice_get, slice_index_or, slice_set, refl, sym, ap, ◌∙◌, subst, inl, inr, eqb-true, get_or-set_same, get_or-set_other, arith}
-use Rattle.std.specs.Prelude.{nat_le, option_and_then, option_map}
+use Rattle.std.proofs.Common.{length-append, ◌≡◌, ◌≤◌, ◌+◌, ◌==◌, ℕ, Bool, true, false, List, [], ◌∷◌, ◌++◌, Option, Some, None, if◌then◌else◌, length, slice_get, slice_index_or, slice_set, refl, sym, ap, ◌∙◌, subst, inl, inr, eqb-true, get_or-set_same, get_or-set_other, arith}
+use Rattle.std.specs.Prelude.{option_and_then, option_map}
 use Rattle.std.proofs.lemmas.Bool.{cases_eq}
-use Rattle.tipc_types.specs.declared.message_forms.Flow.TheVariants.{Zero}
 use Rattle.tipc_types.specs.declared.node_calls.Answer.{Answer}
 use Rattle.tipc_types.specs.declared.node_calls.By.{By}
 use Rattle.tipc_types.specs.declared.node_calls.EventNote.{EventNote}
@@ -10,44 +9,33 @@ use Rattle.tipc_types.specs.declared.node_calls.EventNote.TheVariants as note
 use Rattle.tipc_outside.specs.declared.outgoing.Outgoing.{Outgoing}
 use Rattle.tipc_journal.specs.declared.entries.Entry.{Entry}
 use Rattle.tipc_journal.specs.Steps.{NodeStep}
-use Rattle.tipc_reassembly.proofs.TraceLaws.{begun_none}
 use Rattle.tipc_node.specs.declared.neighbours.Neighbour.{Neighbour}
 use Rattle.tipc_node.specs.Calls.{Performs}
-use Rattle.tipc_node.specs.Nodes.{NodeState, acquaintance, is_mended_on, known_neighbour, neighbour_of}
+use Rattle.tipc_node.specs.Nodes.{NodeState, neighbour_of}
 use Rattle.tipc_node.specs.Telling.{IsTold}
-use Rattle.tipc_pair.specs.LinkReadings.{silence_in}
-use Rattle.tipc_node.specs.Turns.{NodeTurn, addr_of, pair_in}
+use Rattle.tipc_node.specs.Turns.{NodeTurn, pair_in}
 use Rattle.tipc_replay.specs.declared.air.Arrived.{Arrived}
 use Rattle.tipc_replay.specs.declared.air.Sent.{Sent}
 use Rattle.tipc_replay.specs.declared.events.WorldEvent.{WorldEvent}
-use Rattle.tipc_replay.specs.declared.events.WorldEvent.TheVariants.{Know, Restart, Call, Arrive}
-use Rattle.tipc_replay.specs.Calls.{CanHappenAt, HasNextBoot, node_of}
+use Rattle.tipc_replay.specs.declared.events.WorldEvent.TheVariants.{Restart, Call, Arrive}
+use Rattle.tipc_replay.specs.Calls.{HasNextBoot, node_of}
 use Rattle.tipc_replay.specs.Causes.{arrived_frame, frame_in}
 use Rattle.tipc_replay.specs.Effects.{HasEffect, Makes, Meets}
 use Rattle.tipc_replay.specs.Due.{frame_for, unarrived}
 use Rattle.tipc_replay.specs.Events.{JoinsAt}
-use Rattle.tipc_replay.specs.Members.{IsNewcomer, IsRestarted, known_member}
+use Rattle.tipc_replay.specs.Members.{IsNewcomer, IsRestarted}
 use Rattle.tipc_replay.specs.Sound.{IsSound}
-use Rattle.tipc_replay.specs.Spelled.{HasBrought}
-use Rattle.tipc_replay.specs.States.{MemberState, contact_at, member_at, pair_at}
-use Rattle.tipc_replay.specs.Numbers.{end_on}
+use Rattle.tipc_replay.specs.States.{MemberState, contact_at}
 use Rattle.tipc_replay.specs.Skies.{AirState, air_on, empty_air, with_both}
-use Rattle.tipc_types.specs.Address.{node_word}
 use Rattle.tipc_types.specs.Prefixes.{IsPrefixOf}
-use Rattle.tipc_pair.specs.Courses.{going_on}
-use Rattle.tipc_pair.specs.Facing.{PairEnds, alone, facing, turned}
-use Rattle.tipc_pair.specs.PairCalls.{at_bearer}
-use Rattle.tipc_pair.specs.PairTurns.{made_near}
-use Rattle.tipc_pair.proofs.turns.PairTraces.{keeps_of, making_by, pair_of}
+use Rattle.tipc_pair.specs.Facing.{alone}
 use Rattle.tipc_replay.proofs.pairs.Standing.{after_number, neighbour_number}
-use Rattle.tipc_replay.proofs.pairs.PairedStarts.{kept_first, kept_pair, known_is, known_pair}
 use Rattle.tipc_replay.specs.Steps.{Becomes, Happens, IsArrival, Stage, Turns}
 use Rattle.tipc_replay.specs.Watched.{AreTraced, AreWatched, IsWatched}
-use Rattle.tipc_pair.specs.Traces.{KeepsBy}
 use Rattle.tipc_replay.proofs.pairs.Bringing.{are_brought}
 use Rattle.tipc_replay.proofs.frames.Coming.{ComesOut, nothing_out, one_receiver, spoken_to}
 use Rattle.tipc_replay.proofs.Growing.{prefix_same}
-use Rattle.tipc_replay.proofs.journals.Kept.{IsKept, get_last, kept_of, kept_wider, quieter_kept, restarted_kept, seen_by, started_kept, watched_of}
+use Rattle.tipc_replay.proofs.journals.Kept.{IsKept, get_last, kept_of, kept_wider, restarted_kept, seen_by, started_kept, watched_of}
 use Rattle.tipc_replay.proofs.LookUps.{place_within}
 use Rattle.tipc_replay.proofs.pairs.PairedEvents.{IsReady, comes_out, made_step, met_step}
 use Rattle.tipc_replay.proofs.frames.Reaching.{placed}
@@ -56,7 +44,7 @@ use Rattle.tipc_replay.proofs.journals.Stepping.{Widens, get_prefix}
 use Rattle.tipc_replay.proofs.journals.TunnelsTaken.{TakesTunnels, arrival_takes}
 use Rattle.tipc_replay.proofs.journals.TurnKept.{turn_kept}
 use Rattle.tipc_replay.proofs.streams.TurnStreams.{AreBrought}
-use Rattle.tipc_replay.proofs.journals.TurnTraced.{AreCarried, IsCarried, traced_set, traced_wider, turn_spelled, turn_traced}
+use Rattle.tipc_replay.proofs.journals.TurnTraced.{AreCarried, IsCarried, traced_wider, turn_spelled, turn_traced}
 -- ---- the air and the arrivals
 use Rattle.tipc_name_dist.proofs.Applied.{same_number as itself}
 
@@ -179,83 +167,7 @@ meet_watched s air' a by bearer place f m m' frames answered sound longer was w 
     (are_carried s air' a bearer place f m.arrivals m'.arrivals step sound longer there more refl)
     (arrival_takes m.node m'.node _ bearer (length m.arrivals) f.frame frames h.arrived h.turn.inside h.arrives h.turn.turn) (are_brought s a m m' f.frame step frames sound was h.turn.turn out)
 
--- ---- a link end is made, and a boot begins
-
--- what a node keeps of a peer, which may be a stranger still, came by arrivals
-stranger_keeps : (P : ℕ → List ℕ → Type 0) (m : MemberState) (peer : ℕ) → ((y : Neighbour) → neighbour_of m.node peer ≡ Some y → KeepsBy P y.pair) → KeepsBy P (kept_pair m peer)
-stranger_keeps P m peer h = case (neighbour_of m.node peer) refl
-  where
-    case : (o : Option Neighbour) → neighbour_of m.node peer ≡ o → KeepsBy P (acquaintance m.node peer o).pair
-    case None is = record { near = tt; far = tt; begun = begun_none P }
-    case (Some y) is = h y is
-
--- a new end holds nothing
-new_keeps : (P : ℕ → List ℕ → Type 0) (m : MemberState) (peer bearer : ℕ) → KeepsBy P (kept_pair m peer) → KeepsBy P (known_pair m peer bearer)
-new_keeps P m peer bearer h = keeps_of P (known_pair m peer bearer) (making_by P bearer (is_mended_on m.node.mended bearer) (kept_pair m peer) (pair_of P (kept_pair m peer) h))
-
--- and wasn't silent
-record IsCalmer (x y : PairEnds) : Type 0 where
-  first : y.bearer ≡ 0
-  near : silence_in y.near ≤ silence_in x.near
-  far : silence_in y.far ≤ silence_in x.far
-
-calmer_on : (x y : PairEnds) (bearer : ℕ) → x.bearer ≡ 0 → IsCalmer x y → silence_in (end_on bearer (Some y)) ≤ silence_in (end_on bearer (Some x))
-unfolding facing
-calmer_on x y bearer first h =
-    subst (λ b. silence_in (if nat_le bearer 1 then (if b == bearer then y else turned y).near else None) ≤ silence_in (end_on bearer (Some x))) (sym h.first)
-    (subst (λ b. silence_in (if nat_le bearer 1 then (if 0 == bearer then y else turned y).near else None) ≤ silence_in (if nat_le bearer 1 then (if b == bearer then x else turned x).near else None)) (sym first)
-    (by (nat_le bearer 1) (0 == bearer)))
-  where
-    by : (t b : Bool) → silence_in (if t then (if b then y else turned y).near else None) ≤ silence_in (if t then (if b then x else turned x).near else None)
-    by false b = omega arith
-    by true true = h.near
-    by true false = h.far
-
-made_calmer : (mended : Bool) (x : PairEnds) (bearer : ℕ) → bearer ≤ 1 → IsCalmer (record x { bearer = 0 }) (at_bearer bearer (record x { bearer = 0 }) (made_near mended)).pair
-unfolding facing going_on
-made_calmer true x zero two = record { first = refl; near = omega arith; far = omega arith }
-made_calmer false x zero two = record { first = refl; near = omega arith; far = omega arith }
-made_calmer true x (suc zero) two = record { first = refl; near = omega arith; far = omega arith }
-made_calmer false x (suc zero) two = record { first = refl; near = omega arith; far = omega arith }
-made_calmer mended x (suc (suc bearer)) two = absurd (let wrong : ⊥ = omega (arith, two) in wrong)
-
-known_calmer : (m : MemberState) (peer bearer : ℕ) → bearer ≤ 1 → (kept_pair m peer).bearer ≡ 0 → IsCalmer (kept_pair m peer) (known_pair m peer bearer)
-known_calmer m peer bearer two first =
-    let x = kept_pair m peer in
-    let same : record x { bearer = 0 } ≡ x = ap (λ n. record x { bearer = n }) (sym first) in
-    subst (λ y. IsCalmer y (at_bearer bearer y (made_near (is_mended_on m.node.mended bearer))).pair) same (made_calmer (is_mended_on m.node.mended bearer) x bearer two)
-
-stranger_calm : (m : MemberState) (peer bearer : ℕ) → silence_in (end_on bearer (Some (kept_pair m peer))) ≤ silence_in (end_on bearer (pair_in m.node peer))
-unfolding facing
-stranger_calm m peer bearer = case (neighbour_of m.node peer)
-  where
-    case : (o : Option Neighbour) → silence_in (end_on bearer (Some (acquaintance m.node peer o).pair)) ≤ silence_in (end_on bearer (option_map (λ (x : Neighbour). x.pair) o))
-    case None = elim (nat_le bearer 1) as (λ t. silence_in (if t then (if 0 == bearer then alone m.node.own (node_word peer) m.node.boot else turned (alone m.node.own (node_word peer) m.node.boot)).near else None) ≤ 0) [
-      | true ↦ elim (0 == bearer) as (λ b. silence_in (if b then alone m.node.own (node_word peer) m.node.boot else turned (alone m.node.own (node_word peer) m.node.boot)).near ≤ 0) [ true ↦ omega arith | false ↦ omega arith ]
-      | false ↦ omega arith
-    ]
-    case (Some y) = omega arith
-
-silence_known : (m : MemberState) (peer bearer : ℕ) → bearer ≤ 1 → (kept_pair m peer).bearer ≡ 0 → peer < length m.node.neighbours
-    → (p b : ℕ) → silence_in (end_on b (pair_in (known_member m peer bearer).node p)) ≤ silence_in (end_on b (pair_in m.node p))
-silence_known m peer bearer two first within p b = elim (cases_eq p peer) [
-  | inl same ↦
-      let here : silence_in (end_on b (pair_in (known_member m peer bearer).node peer)) ≤ silence_in (end_on b (pair_in m.node peer)) =
-      subst (λ o. silence_in (end_on b o) ≤ silence_in (end_on b (pair_in m.node peer))) (sym (known_is m peer bearer within))
-      (let one = calmer_on (kept_pair m peer) (known_pair m peer bearer) b first (known_calmer m peer bearer two first) in let more = stranger_calm m peer b in omega (arith, one, more)) in
-      subst (λ k. silence_in (end_on b (pair_in (known_member m peer bearer).node k)) ≤ silence_in (end_on b (pair_in m.node k))) (sym same) here
-  | inr apart ↦
-      let other : pair_in (known_member m peer bearer).node p ≡ pair_in m.node p = ap (λ o. option_map (λ (x : Neighbour). x.pair) o) (get_or-set_other m.node.neighbours peer p (Some (known_neighbour m.node peer bearer)) None apart) in
-      subst (λ o. silence_in (end_on b o) ≤ silence_in (end_on b (pair_in m.node p))) (sym other) (omega arith)
-]
-
-know_watched : (air air' : AirState) (m m' : MemberState) (peer bearer : ℕ) → GrowsAir air air' → IsWatched air m → m' ≡ known_member m peer bearer → bearer ≤ 1 → (kept_pair m peer).bearer ≡ 0 → peer < length m.node.neighbours → IsWatched air' m'
-know_watched air air' m m' peer bearer longer w is two first within =
-    let P = HasBrought (seen_by air' m) Zero (addr_of peer) in
-    let traced = traced_in air air' m longer w in
-    subst (IsWatched air') (sym is)
-    (watched_of air' (known_member m peer bearer) (quieter_kept (seen_by air' m) m.past m.node.journal (pair_in m.node) (pair_in (known_member m peer bearer).node) (kept_in air air' m longer w) (silence_known m peer bearer two first within))
-    (traced_set (seen_by air' m) m.node.neighbours peer (known_neighbour m.node peer bearer) within traced (new_keeps P m peer bearer (stranger_keeps P m peer (λ y there. traced peer y there)))))
+-- ---- a boot begins
 
 -- a node whose parts are these
 watched_as : (air : AirState) (m : MemberState) (arrivals : List Arrived) (past : List (List Entry)) (journal : List Entry) → m.arrivals ≡ arrivals → m.past ≡ past → m.node.journal ≡ journal
@@ -278,14 +190,8 @@ newcomer_watched air m n first c =
 
 -- ---- all events
 
-pair_there : (s : Stage) (a b : ℕ) (m : MemberState) (y : Neighbour) → slice_index_or s.members a None ≡ Some m → neighbour_of m.node b ≡ Some y → pair_at s.members a b ≡ Some y.pair
-unfolding pair_at member_at
-pair_there s a b m y here there = ap (option_and_then (λ (k : MemberState). pair_in k.node b)) here ∙ ap (option_map (λ (x : Neighbour). x.pair)) there
-
 does_watched : (s : Stage) (air' : AirState) (by : By) (event : WorldEvent) (bytes : List ℕ) (m m' : MemberState) (frames : List Outgoing) (answered : Answer) → IsSound s.members s.air → GrowsAir s.air air'
     → slice_index_or s.members (node_of event) None ≡ Some m → IsWatched s.air m → IsReady s.members s.air event bytes m → HasEffect by event bytes m m' frames answered → IsWatched air' m'
-does_watched s air' by (Know a peer bearer) bytes m m' frames answered sound longer here w ready h =
-    know_watched s.air air' m m' peer bearer longer w h.0 ready.2 (kept_first m peer (λ y there. (sound.between a peer y.pair (pair_there s a peer m y here there)).first)) h.3
 does_watched s air' by (Restart a) bytes m m' frames answered sound longer here w ready h = restart_watched s.air air' m m' longer w h.0
 does_watched s air' by (Call a call) bytes m m' frames answered sound longer here w ready h = make_watched s air' a by call m m' frames answered sound longer here w h
 does_watched s air' by (Arrive a bearer place) bytes m m' frames answered sound longer here w ready h =
@@ -323,13 +229,12 @@ arrival_watched old new by node bearer place answered lost sound all h = case (u
         happens_watched old new by (Arrive node bearer place) a.0.frame answered lost sound all a.2 (a.0, a.1, free, refl)
 
 -- after one event
-pub becomes_watched : (old new : Stage) (by : By) (event : WorldEvent) (answered : Answer) (lost : Bool) → IsSound old.members old.air → AreWatched old.members old.air → HasNextBoot old.members event → CanHappenAt old.members event
+pub becomes_watched : (old new : Stage) (by : By) (event : WorldEvent) (answered : Answer) (lost : Bool) → IsSound old.members old.air → AreWatched old.members old.air → HasNextBoot old.members event
     → Becomes old by event new answered lost → AreWatched new.members new.air
-becomes_watched old new by (Know node peer bearer) answered lost sound all boots can h = happens_watched old new by (Know node peer bearer) [] answered lost sound all h (can.2, can.1, can.3, can.4)
-becomes_watched old new by (Restart node) answered lost sound all boots can h =
+becomes_watched old new by (Restart node) answered lost sound all boots h =
     happens_watched old new by (Restart node) [] answered lost sound all h (let next = boots h.before h.turns.was in omega arith)
-becomes_watched old new by (Call node call) answered lost sound all boots can h = happens_watched old new by (Call node call) [] answered lost sound all h tt
-becomes_watched old new by (Arrive node bearer place) answered lost sound all boots can h = arrival_watched old new by node bearer place answered lost sound all h
+becomes_watched old new by (Call node call) answered lost sound all boots h = happens_watched old new by (Call node call) [] answered lost sound all h tt
+becomes_watched old new by (Arrive node bearer place) answered lost sound all boots h = arrival_watched old new by node bearer place answered lost sound all h
 
 -- where no nodes are
 pub start_watched : AreWatched [] empty_air

@@ -1,5 +1,6 @@
 -- An arrival of which a pair took a tunnel packet is answered so.
-use Rattle.std.proofs.Common.{◌≡◌, ◌<◌, ◌^◌, ◌++◌, ◌∙◌, length-append, ℕ, List, [], ◌∷◌, Option, Some, None, length, slice_get, refl, sym, ap, subst, arith}
+use Rattle.std.proofs.Common.{◌≡◌, ◌<◌, ◌^◌, ◌++◌, ◌∙◌, length-append, ℕ, List, [], ◌∷◌, Option, Some, None, drop, length, slice_get, refl, sym, ap, subst, arith}
+use Rattle.std.proofs.lemmas.List.{drop_at}
 use Rattle.tipc_types.specs.declared.message_forms.Flow.TheVariants.{Zero}
 use Rattle.tipc_types.specs.declared.link_words.BroadcastState.{BroadcastState}
 use Rattle.tipc_types.specs.declared.link_words.Why.{Why}
@@ -11,7 +12,11 @@ use Rattle.tipc_types.specs.declared.node_calls.EventNote.TheVariants as event
 use Rattle.tipc_outside.specs.declared.outgoing.Outgoing.{Outgoing}
 use Rattle.tipc_header.specs.declared.packet.Changeover.{Changeover}
 use Rattle.tipc_header.specs.declared.packet.Header.TheVariants as header
-use Rattle.tipc_header.specs.Frames.{frame_of}
+use Rattle.tipc_header.specs.declared.frames.FrameKind.TheVariants.{Links}
+use Rattle.tipc_header.specs.Frames.{envelope, first_of, frame_of, kind_in, kind_of}
+use Rattle.tipc_header.specs.Reading.{fields_at}
+use Rattle.tipc_header.proofs.Again.{again}
+use Rattle.tipc_header.proofs.FrameWords.{length-envelope}
 use Rattle.tipc_header.specs.Spelling.{Fields, spelling}
 use Rattle.tipc_journal.specs.declared.entries.Entry.{Entry}
 use Rattle.tipc_journal.specs.declared.entries.Entry.TheVariants.{Answered}
@@ -142,6 +147,15 @@ heard_taken n n' by bearer number bytes frames answered h t =
     let took = took_alike (pair_with n t.sender) bearer t.es t.er t.packet number t.shown shown t.tunnel t.outset h.out t.header_is t.happened heard t.took in
     took_answer answered h.out.given (arrival_deliveries Zero h.peer h.neighbour.pair h.out.given) h.answer_is took
 
+-- a tunnel packet is a link packet
+tunnel_kind : (n : NodeState) (bytes : List ℕ) (bearer number : ℕ) → IsTunnelAt n bytes bearer number → kind_in bytes ≡ Links
+unfolding kind_in
+tunnel_kind n bytes bearer number t =
+    let from = t.is_from in
+    let first = first_of bytes in
+    let rest : drop 16 bytes ≡ spelling t.packet = ap (drop 16) from.frame_is ∙ drop_at (envelope t.es t.er) (spelling t.packet) 16 (length-envelope t.es t.er) in
+    ap (λ xs. kind_of first (fields_at xs).header) rest ∙ ap (λ (q : Fields). kind_of first q.header) (again t.packet from.fits) ∙ ap (kind_of first) t.header_is
+
 pub arrival_takes : (n n' : NodeState) (by : By) (bearer number : ℕ) (bytes : List ℕ) (frames : List Outgoing) (answered : Arrival) (inside : List Entry) → Arrives n n' by bearer number bytes frames answered
     → NodeTurn n n' bytes (step_of by (event.Arrive bearer number) inside (answer.Arrived answered)) frames → TakesTunnels n (step_of by (event.Arrive bearer number) inside (answer.Arrived answered)) bytes
 arrival_takes n n' by bearer number bytes frames answered inside h turn bearer_at number_at place e is there t = case (stop_of n bearer bytes) refl
@@ -156,5 +170,6 @@ arrival_takes n n' by bearer number bytes frames answered inside h turn bearer_a
     case None reaches =
         let bearers : bearer_at ≡ bearer = cc in
         let numbers : number_at ≡ number = cc in
-        let taken = heard_taken n n' by bearer number bytes frames answered (h.heard reaches) (subst (λ k. IsTunnelAt n bytes k number) bearers (subst (IsTunnelAt n bytes bearer_at) numbers t)) in
+        let at = subst (λ k. IsTunnelAt n bytes k number) bearers (subst (IsTunnelAt n bytes bearer_at) numbers t) in
+        let taken = heard_taken n n' by bearer number bytes frames answered (h.heard reaches (tunnel_kind n bytes bearer number at)) at in
         (taken.0, ap answer.Arrived taken.1)

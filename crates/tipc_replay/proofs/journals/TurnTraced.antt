@@ -1,7 +1,6 @@
 -- What a node has of its peers was brought by frames that they sent, also after a turn; and each message that a turn delivers is spelled.
 use Rattle.std.specs.Prelude.{◌≢◌, All, is_some, option_and_then}
-use Rattle.std.proofs.Common.{◌≡◌, ◌≤◌, ◌<◌, ◌+◌, ℕ, suc, List, [], ◌∷◌, Option, Some, None, length, slice_get, slice_index_or, slice_set, refl, sym, ap, ◌∙◌, subst, inl, inr, get_or-set_same, get_or-set_other, arith, true}
-use Rattle.std.proofs.lemmas.Bool.{cases_eq}
+use Rattle.std.proofs.Common.{◌≡◌, ◌≤◌, ◌<◌, ◌+◌, ℕ, suc, List, [], ◌∷◌, Option, Some, None, length, slice_get, refl, sym, ap, ◌∙◌, subst, arith, true}
 use Rattle.std.proofs.lemmas.List.Elements.{All-cons, All-head, All-nil, All-tail, All-weaker}
 use Rattle.std.proofs.lemmas.Option.{slice_get_within}
 use Rattle.tipc_types.specs.declared.identity.To.TheVariants as to
@@ -116,17 +115,6 @@ keeps_weaker P Q more x k = record { near = holds_weaker P Q more x.near k.near;
 
 pub traced_wider : (old new : Seen) (xs : List (Option Neighbour)) → Widens old new → AreTraced old xs → AreTraced new xs
 traced_wider old new xs w h p x is = keeps_weaker (HasBrought old Zero (addr_of p)) (HasBrought new Zero (addr_of p)) (λ by bytes b. brought_wider old new Zero (addr_of p) by bytes w b) x.pair (h p x is)
-
--- one neighbour is another
-pub traced_set : (seen : Seen) (xs : List (Option Neighbour)) (q : ℕ) (y : Neighbour) → q < length xs → AreTraced seen xs → KeepsBy (HasBrought seen Zero (addr_of q)) y.pair → AreTraced seen (slice_set xs q (Some y))
-traced_set seen xs q y within h k p x is = elim (cases_eq p q) [
-  | inl same ↦
-      let here : slice_index_or (slice_set xs q (Some y)) q None ≡ Some y = get_or-set_same xs q (Some y) None within in
-      let there : slice_index_or (slice_set xs q (Some y)) q None ≡ Some x = ap (λ i. slice_index_or (slice_set xs q (Some y)) i None) (sym same) ∙ is in
-      let one : y ≡ x = (let e : Some y ≡ Some x = sym here ∙ there in cc) in
-      subst (λ n. KeepsBy (HasBrought seen Zero (addr_of n)) x.pair) (sym same) (subst (λ (z : Neighbour). KeepsBy (HasBrought seen Zero (addr_of q)) z.pair) one k)
-  | inr apart ↦ h p x (sym (get_or-set_other xs q p (Some y) None apart) ∙ is)
-]
 
 -- ---- the messages
 

@@ -1,12 +1,11 @@
 -- The numbers under which a node enters contacts with a peer rise from contact to contact, and from boot to boot.
-use Rattle.std.proofs.Common.{◌≡◌, ◌≤◌, ◌<◌, ◌+◌, ◌==◌, ℕ, Bool, true, false, List, [], ◌∷◌, ◌++◌, Option, Some, None, filter, refl, sym, ap, ◌∙◌, subst, inl, inr, get_or-set_same, get_or-set_other, arith}
+use Rattle.std.proofs.Common.{◌≡◌, ◌≤◌, ◌<◌, ◌+◌, ◌==◌, ℕ, Bool, true, false, List, [], ◌∷◌, ◌++◌, Option, Some, None, filter, refl, sym, ap, ◌∙◌, subst, arith}
 use Rattle.std.specs.Cmp.{nat_cmp_is}
 use Rattle.std.specs.declared.cmp.Ordering.TheVariants.{Less}
 use Rattle.std.specs.List.{AllByRecursion, cons_option, filter_map, flat_map}
 use Rattle.std.specs.List.Sorted.{IsStrictlySortedBy}
 use Rattle.std.specs.Ordering.{nat_cmp}
-use Rattle.std.specs.Prelude.{if◌then◌else◌, length, option_map, slice_index_or, unwrap_or}
-use Rattle.std.proofs.lemmas.Bool.{cases_eq}
+use Rattle.std.specs.Prelude.{if◌then◌else◌, option_map, slice_index_or, unwrap_or}
 use Rattle.std.proofs.lemmas.Bool.Decides.{nat_tests}
 use Rattle.std.proofs.lemmas.List.{append-nil}
 use Rattle.std.proofs.lemmas.List.Elements.{All-nil, All-push, All-weaker, filter_map-append, recursion_from_All}
@@ -22,19 +21,18 @@ use Rattle.tipc_pair.specs.declared.transitions.Transition.TheVariants.{ContactD
 use Rattle.tipc_pair.specs.Facing.{PairEnds, in_contact}
 use Rattle.tipc_node.specs.declared.neighbours.Neighbour.{Neighbour}
 use Rattle.tipc_pair.specs.Contacts.{is_of_contact}
-use Rattle.tipc_node.specs.Nodes.{NodeState, acquaintance, change_entries, end_with, known_neighbour, known_node, neighbour_of, pair_with}
+use Rattle.tipc_node.specs.Nodes.{NodeState, acquaintance, change_entries, neighbour_of, pair_with}
 use Rattle.tipc_node.specs.Telling.{IsTold}
 use Rattle.tipc_node.specs.Turns.{NodeTurn, PeerTurn, addr_of, is_change_of, pair_in}
 use Rattle.tipc_node.proofs.names.SharingUnused.{peer_means}
-use Rattle.tipc_node.proofs.pairs.Knowing.{known_contact}
 use Rattle.tipc_node.proofs.pairs.Strangers.{kept_abreast}
 use Rattle.tipc_pair.proofs.turns.PairTells.{Means, Story, began, contact_changes, ended, stays}
 use Rattle.tipc_replay.specs.Entered.{HasRisen, RiseBelow, entered_by, next_in, numbers_entered}
-use Rattle.tipc_replay.specs.Members.{IsNewcomer, IsRestarted, known_member}
+use Rattle.tipc_replay.specs.Members.{IsNewcomer, IsRestarted}
 use Rattle.tipc_replay.specs.Shared.{AreShared}
 use Rattle.tipc_replay.specs.States.{MemberState, history, history_at, member_at}
 use Rattle.tipc_replay.proofs.LookUps.{history_at-is, member_at-is}
-use Rattle.tipc_replay.proofs.streams.Histories.{history_longer, history_restarted, history_same}
+use Rattle.tipc_replay.proofs.streams.Histories.{history_longer, history_restarted}
 
 -- ---- numbers that rise
 
@@ -170,30 +168,7 @@ turn_rises m m' bytes s frames b past t told h = subst (λ ns. RiseBelow ns (nex
         subst (λ ns. RiseBelow (before ++ ns) (next_in m'.node.boot (pair_in m'.node b))) (sym (entered_turn m.node.own bytes s frames b x y means.story at means.story_is))
         (subst (RiseBelow (before ++ numbers_of means.story)) (next_read m'.node b) (story_rises before m.node.boot m'.node.boot x y means.story means.means (subst (RiseBelow before) (sym (next_read m.node b)) h)))
 
--- ---- a peer becomes known, and a boot begins
-
--- a link end that is made leaves it as it was
-know_next : (n : NodeState) (peer bearer b : ℕ) → peer < length n.neighbours → end_with bearer (neighbour_of n peer) ≡ None → IsTold n → next_in n.boot (pair_in (known_node n peer bearer) b) ≡ next_in n.boot (pair_in n b)
-know_next n peer bearer b within none told = elim (cases_eq b peer) [
-  | inl same ↦
-      let kept = known_contact n peer bearer none told in
-      let now : pair_in (known_node n peer bearer) b ≡ Some known.pair = ap (pair_in (known_node n peer bearer)) same ∙ ap (option_map (λ (x : Neighbour). x.pair)) (get_or-set_same n.neighbours peer (Some known) None within) in
-      ap (next_in n.boot) now
-      ∙ ap (λ t. if t then known.pair.contact + 1 else known.pair.contact) kept.0
-      ∙ ap (λ k. if in_contact (pair_with n peer) then k + 1 else k) kept.1
-      ∙ next_read n peer
-      ∙ ap (λ k. next_in n.boot (pair_in n k)) (sym same)
-  | inr apart ↦ ap (λ o. next_in n.boot (option_map (λ (x : Neighbour). x.pair) o)) (get_or-set_other n.neighbours peer b (Some known) None apart)
-]
-  where
-    known : Neighbour
-    known = known_neighbour n peer bearer
-
-pub know_rises : (m : MemberState) (peer bearer b : ℕ) → peer < length m.node.neighbours → end_with bearer (neighbour_of m.node peer) ≡ None → IsTold m.node → HasRisen m b → HasRisen (known_member m peer bearer) b
-know_rises m peer bearer b within none told h =
-    let n = m.node in
-    subst (λ es. RiseBelow (numbers_entered es (addr_of b)) (next_in n.boot (pair_in (known_node n peer bearer) b))) (sym (history_same m (known_member m peer bearer) refl refl))
-    (subst (RiseBelow (numbers_entered (history m) (addr_of b))) (sym (know_next n peer bearer b within none told)) h)
+-- ---- a boot begins
 
 -- each number of a boot is below those of the next one
 next_boot : (boot : ℕ) (o : Option Neighbour) → ((x : Neighbour) → o ≡ Some x → boot_of x.pair.contact ≡ boot) → next_in boot (option_map (λ (x : Neighbour). x.pair) o) ≤ first_number (boot + 1)

@@ -6,17 +6,15 @@ use Rattle.tipc_types.specs.declared.node_calls.By.{By}
 use Rattle.tipc_outside.specs.declared.outgoing.Outgoing.{Outgoing}
 use Rattle.tipc_journal.specs.declared.entries.Entry.{Entry}
 use Rattle.tipc_contact.specs.Sides.{boot_of}
-use Rattle.tipc_paired.specs.Paired.{IsNode}
-use Rattle.tipc_two_nodes.specs.Sights.{AreSeen, Sight}
 use Rattle.tipc_node.specs.declared.neighbours.Neighbour.{Neighbour}
-use Rattle.tipc_node.specs.Nodes.{end_with, neighbour_of, pair_with}
+use Rattle.tipc_node.specs.Nodes.{neighbour_of, pair_with}
 use Rattle.tipc_pair.specs.Facing.{PairEnds}
 use Rattle.tipc_node.proofs.pairs.Strangers.{kept_by}
 use Rattle.tipc_node.specs.Sharing.{IsUnused, SharesNames}
 use Rattle.tipc_node.specs.Telling.{IsTold}
 use Rattle.tipc_replay.specs.declared.events.WorldEvent.{WorldEvent}
-use Rattle.tipc_replay.specs.declared.events.WorldEvent.TheVariants.{Know, Restart, Call, Arrive}
-use Rattle.tipc_replay.specs.Calls.{node_of, CanHappenAt}
+use Rattle.tipc_replay.specs.declared.events.WorldEvent.TheVariants.{Restart, Call, Arrive}
+use Rattle.tipc_replay.specs.Calls.{node_of}
 use Rattle.tipc_replay.specs.Effects.{HasEffect}
 use Rattle.tipc_replay.specs.Due.{unarrived}
 use Rattle.tipc_replay.specs.Entered.{HasRisen}
@@ -29,17 +27,13 @@ use Rattle.tipc_replay.specs.States.{MemberState, boot_at, pair_at}
 use Rattle.tipc_replay.specs.Steps.{Becomes, Happens, IsArrival, Stage}
 use Rattle.tipc_replay.specs.Views.{sight_at}
 use Rattle.tipc_replay.proofs.calls.Journals.{get_more}
-use Rattle.tipc_replay.proofs.Happening.{not_known}
 use Rattle.tipc_replay.proofs.LookUps.{boot_at-is, member_at-is, place_within}
 use Rattle.tipc_replay.proofs.calls.Outcomes.{some_is}
-use Rattle.tipc_replay.proofs.names.Rising.{know_rises, newcomer_rises, restart_rises, turn_rises}
+use Rattle.tipc_replay.proofs.names.Rising.{newcomer_rises, restart_rises, turn_rises}
 use Rattle.tipc_replay.proofs.pairs.PairedEvents.{made_step, met_step}
-use Rattle.tipc_replay.proofs.pairs.Standing.{acquainted, neighbour_apart, pair_is}
+use Rattle.tipc_replay.proofs.pairs.Standing.{acquainted, neighbour_apart, pair_is, seen_node}
 
 -- ---- contact numbers
-
-seen_node : (v w : Sight) → AreSeen v w → IsNode v.node
-seen_node v w h = subst IsNode h.seen_here.node h.talking.twins.paired.here.node
 
 -- the contact number that a node has for another one is of its boot
 pub boot_is : (s : Stage) (a b : ℕ) (m : MemberState) (x : Neighbour) → IsSound s.members s.air → slice_index_or s.members a None ≡ Some m → neighbour_of m.node b ≡ Some x → boot_of x.pair.contact ≡ m.node.boot
@@ -93,22 +87,14 @@ restart_shared s a m m' sound was h r = record {
   rises = λ b. restart_rises m m' b (λ x is. boot_is s a b m x sound was is) r (h.rises b);
 }
 
--- a node that comes to know another on a bearer doesn't know it there yet
-abbrev IsNew : MemberState → WorldEvent → Type 0
-IsNew m (Know a peer bearer) = end_with bearer (neighbour_of m.node peer) ≡ None
-IsNew m other = Unit {0}
-
-does_shared : (s : Stage) (by : By) (event : WorldEvent) (bytes : List ℕ) (m m' : MemberState) (frames : List Outgoing) (answered : Answer) → IsSound s.members s.air → slice_index_or s.members (node_of event) None ≡ Some m → IsNew m event → IsShared m
+does_shared : (s : Stage) (by : By) (event : WorldEvent) (bytes : List ℕ) (m m' : MemberState) (frames : List Outgoing) (answered : Answer) → IsSound s.members s.air → slice_index_or s.members (node_of event) None ≡ Some m → IsShared m
     → HasEffect by event bytes m m' frames answered → IsShared m'
-does_shared s by (Know a peer bearer) bytes m m' frames answered sound was new h d =
-    same_boot m m' h (ap (λ (x : MemberState). x.past) d.0) (ap (λ (x : MemberState). x.node.boot) d.0) d.4 d.5
-    (λ b. subst (λ x. HasRisen x b) (sym d.0) (know_rises m peer bearer b d.3 new h.told (h.rises b)))
-does_shared s by (Restart a) bytes m m' frames answered sound was new h d = restart_shared s a m m' sound was h d.0
-does_shared s by (Call a call) bytes m m' frames answered sound was new h d =
+does_shared s by (Restart a) bytes m m' frames answered sound was h d = restart_shared s a m m' sound was h d.0
+does_shared s by (Call a call) bytes m m' frames answered sound was h d =
     let past = ap (λ (x : MemberState). x.past) d.after in
     same_boot m m' h past d.turn.turn.boot d.turn.told d.turn.shared
     (λ b. turn_rises m m' [] (made_step by call m m' frames answered d) frames b past d.turn.turn h.told (h.rises b))
-does_shared s by (Arrive a bearer place) bytes m m' frames answered sound was new h d =
+does_shared s by (Arrive a bearer place) bytes m m' frames answered sound was h d =
     let past = ap (λ (x : MemberState). x.past) d.after in
     same_boot m m' h past d.turn.turn.boot d.turn.told d.turn.shared
     (λ b. turn_rises m m' bytes (met_step by bearer place bytes m m' frames answered d) frames b past d.turn.turn h.told (h.rises b))
@@ -124,26 +110,24 @@ set_shared members a before after was all new n m there = elim (cases_eq n a) [
 ]
 
 happens_shared : (old new : Stage) (by : By) (event : WorldEvent) (bytes : List ℕ) (answered : Answer) (lost : Bool) → IsSound old.members old.air → AreShared old.members
-    → ((m : MemberState) → slice_index_or old.members (node_of event) None ≡ Some m → IsNew m event) → Happens old new by event bytes answered lost → AreShared new.members
-happens_shared old new by event bytes answered lost sound all new_to h =
+    → Happens old new by event bytes answered lost → AreShared new.members
+happens_shared old new by event bytes answered lost sound all h =
     let a = node_of event in
     subst AreShared (sym h.turns.members)
-    (set_shared old.members a h.before h.after h.turns.was all (does_shared old by event bytes h.before h.after h.frames answered sound h.turns.was (new_to h.before h.turns.was) (all a h.before h.turns.was) h.does))
+    (set_shared old.members a h.before h.after h.turns.was all (does_shared old by event bytes h.before h.after h.frames answered sound h.turns.was (all a h.before h.turns.was) h.does))
 
 arrival_shared : (old new : Stage) (by : By) (node bearer place : ℕ) (answered : Answer) (lost : Bool) → IsSound old.members old.air → AreShared old.members → IsArrival old new by node bearer place answered lost → AreShared new.members
 arrival_shared old new by node bearer place answered lost sound all h = case (unarrived old.members old.air node bearer place) refl
   where
     case : (o : Option Answer) → unarrived old.members old.air node bearer place ≡ o → AreShared new.members
     case (Some reason) stops = subst (λ (s : Stage). AreShared s.members) (sym (h.none reason stops).1) all
-    case None free = let a = h.arrives free in happens_shared old new by (Arrive node bearer place) a.0.frame answered lost sound all (λ m was. tt) a.2
+    case None free = let a = h.arrives free in happens_shared old new by (Arrive node bearer place) a.0.frame answered lost sound all a.2
 
 -- after one event
-pub becomes_shared : (old new : Stage) (by : By) (event : WorldEvent) (answered : Answer) (lost : Bool) → CanHappenAt old.members event → IsSound old.members old.air → AreShared old.members → Becomes old by event new answered lost → AreShared new.members
-becomes_shared old new by (Know node peer bearer) answered lost can sound all h =
-    happens_shared old new by (Know node peer bearer) [] answered lost sound all (λ m was. not_known old.members node peer bearer m was can.3 can.4) h
-becomes_shared old new by (Restart node) answered lost can sound all h = happens_shared old new by (Restart node) [] answered lost sound all (λ m was. tt) h
-becomes_shared old new by (Call node call) answered lost can sound all h = happens_shared old new by (Call node call) [] answered lost sound all (λ m was. tt) h
-becomes_shared old new by (Arrive node bearer place) answered lost can sound all h = arrival_shared old new by node bearer place answered lost sound all h
+pub becomes_shared : (old new : Stage) (by : By) (event : WorldEvent) (answered : Answer) (lost : Bool) → IsSound old.members old.air → AreShared old.members → Becomes old by event new answered lost → AreShared new.members
+becomes_shared old new by (Restart node) answered lost sound all h = happens_shared old new by (Restart node) [] answered lost sound all h
+becomes_shared old new by (Call node call) answered lost sound all h = happens_shared old new by (Call node call) [] answered lost sound all h
+becomes_shared old new by (Arrive node bearer place) answered lost sound all h = arrival_shared old new by node bearer place answered lost sound all h
 
 -- where no nodes are
 pub start_shared : AreShared []

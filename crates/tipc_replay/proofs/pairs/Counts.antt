@@ -111,12 +111,6 @@ pub count_alone : (m : MemberState) (peer bearer epoch : ℕ) → link_in m.node
     → count_of m peer bearer epoch ≡ count_in m.counts peer bearer epoch
 count_alone m peer bearer epoch link = count_is m peer bearer epoch None link
 
-pub count_link : (m m' : MemberState) (peer bearer epoch : ℕ) → link_in m.node peer bearer ≡ link_in m'.node peer bearer → m.counts ≡ m'.counts
-    → count_of m peer bearer epoch ≡ count_of m' peer bearer epoch
-unfolding count_of
-count_link m m' peer bearer epoch link counts =
-    ap (λ o. count_with m.counts o peer bearer epoch) link ∙ ap (λ cs. count_with cs (link_in m'.node peer bearer) peer bearer epoch) counts
-
 -- ---- the last session of a link that is down
 
 over_else : (counts : List Tally) (p x : ℕ) (link : Option LinkEnd) (peer bearer epoch : ℕ)

@@ -1,43 +1,45 @@
--- Each frame that leaves a node may come into the air: it is of a link to another node, on one of the two bearers, and has a frame's size.
-use Rattle.std.proofs.Common.{◌≡◌, ◌≢◌, ◌≤◌, ◌<◌, ℕ, true, List, [], Option, Some, None, length, slice_index_or, slice_set, refl, sym, ap, ◌∙◌, subst, arith}
+-- Each frame that leaves a node may come into the air: it is addressed by its kind, on one of the two bearers, and has a frame's size.
+use Rattle.std.proofs.Common.{◌≡◌, ◌⊎◌, ◌<◌, ◌^◌, ℕ, true, List, [], Option, Some, None, length, slice_index_or, slice_set, refl, sym, ap, ◌∙◌, subst, inl, inr, arith}
 use Rattle.std.specs.Prelude.{All, Bool, false, is_some, nat_lt, ◌||◌, ◌&&◌}
 use Rattle.std.proofs.lemmas.Bool.Decides.{nat_tests}
 use Rattle.std.proofs.lemmas.List.Elements.{All-nil, All-take}
 use Rattle.tipc_types.specs.Address.{node_word}
+use Rattle.tipc_types.specs.declared.identity.To.{To}
+use Rattle.tipc_types.specs.declared.identity.To.TheVariants as to
 use Rattle.tipc_types.specs.declared.node_calls.Answer.{Answer}
 use Rattle.tipc_types.specs.declared.node_calls.By.{By}
 use Rattle.tipc_outside.specs.declared.outgoing.Outgoing.{Outgoing}
 use Rattle.tipc_outside.specs.Frames.{Adds, Out, frames_leaving, no_frames}
 use Rattle.tipc_outside.proofs.Adding.{alone_leaving, grows_none}
 use Rattle.tipc_journal.specs.Steps.{NodeStep}
-use Rattle.tipc_header.specs.Frames.{is_of_link}
-use Rattle.tipc_node.specs.Nodes.{end_with, known_frames, known_node, neighbour_of}
-use Rattle.tipc_node.specs.Turns.{IsRouted, is_out_to, is_to}
-use Rattle.tipc_pair.proofs.turns.Addressing.{AreFor, IsFor, for_all}
+use Rattle.tipc_header.specs.declared.frames.FrameKind.TheVariants.{Finds}
+use Rattle.tipc_header.specs.Frames.{is_of_link, kind_in}
+use Rattle.tipc_discovery.specs.Hearing.{discovery_packet}
+use Rattle.tipc_node.specs.Finding.{discovery_frame}
+use Rattle.tipc_node.specs.Nodes.{is_frame_size, is_other}
+use Rattle.tipc_node.specs.Turns.{IsOfDiscovery, IsOnLink, IsRouted, IsToAnother, is_out_to, is_to}
+use Rattle.tipc_node.specs.Turns.IsRouted.{of_discovery, on_link}
+use Rattle.tipc_node.proofs.turns.Finding.{discovery_from, discovery_kind, discovery_size}
 use Rattle.tipc_replay.specs.declared.events.WorldEvent.{WorldEvent}
-use Rattle.tipc_replay.specs.declared.events.WorldEvent.TheVariants.{Know, Restart, Call, Arrive}
-use Rattle.tipc_replay.specs.Addressed.{of_a_link}
+use Rattle.tipc_replay.specs.declared.events.WorldEvent.TheVariants.{Restart, Call, Arrive}
+use Rattle.tipc_replay.specs.Addressed.{IsPacketOf, IsToOther, of_a_link}
 use Rattle.tipc_replay.specs.Air.{IsOut}
-use Rattle.tipc_replay.specs.Calls.{CanHappenAt, node_of, HasNextBoot}
+use Rattle.tipc_replay.specs.Calls.{node_of, HasNextBoot}
 use Rattle.tipc_replay.specs.Effects.{HasEffect}
-use Rattle.tipc_replay.specs.Events.{AreSettled, DidAt}
-use Rattle.tipc_replay.specs.Members.{known_member}
+use Rattle.tipc_replay.specs.Events.{DidAt}
 use Rattle.tipc_replay.specs.Skies.{AirState}
 use Rattle.tipc_replay.specs.Sound.{IsNumber, IsSound}
 use Rattle.tipc_replay.specs.States.{MemberState, contact_at}
 use Rattle.tipc_replay.specs.Steps.{Stage, Turns, stage}
 use Rattle.tipc_replay.proofs.InLists.{Stands, all_weaker, stands_passing}
-use Rattle.tipc_replay.proofs.LookUps.{member_at-is}
 use Rattle.tipc_replay.proofs.calls.Calls.{the_some}
 use Rattle.tipc_replay.proofs.frames.Coming.{ComesOut, nothing_out}
-use Rattle.tipc_replay.proofs.frames.Fitting.{AreFit}
 use Rattle.tipc_replay.proofs.frames.Released.{with_none}
-use Rattle.tipc_replay.proofs.Happening.{not_known}
+use Rattle.tipc_replay.proofs.frames.Routes.{goes_out}
 use Rattle.tipc_replay.proofs.pairs.Bringing.{are_brought}
 use Rattle.tipc_replay.proofs.pairs.PairedEvents.{IsReady, made_step, made_turn, met_step, met_turn, ready_out}
-use Rattle.tipc_replay.proofs.pairs.PairedStarts.{known_for, known_turned}
 use Rattle.tipc_replay.proofs.pairs.PairedTurns.{TakesTurn, turned_with}
-use Rattle.tipc_replay.proofs.pairs.Standing.{acquainted, neighbour_apart, pair_between}
+use Rattle.tipc_replay.proofs.pairs.Standing.{after_number, boot_fits, other_number}
 
 -- ---- the world as it would be if each frame of the event had been lost
 
@@ -72,37 +74,42 @@ all_lost s a before after frames was = record {
 -- of a turn
 turn_out : (s : Stage) (a : ℕ) (m m' : MemberState) (bytes : List ℕ) (step : NodeStep) (frames : List Outgoing) → IsSound s.members s.air → slice_index_or s.members a None ≡ Some m
     → TakesTurn m m' bytes step frames → ComesOut s a step.event bytes → All (IsOut a) frames
-turn_out s a m m' bytes step frames sound was turn out = all_weaker (IsRouted m.node) (IsOut a) frames one turn.turn.routed
+turn_out s a m m' bytes step frames sound was turn out = all_weaker (IsRouted m'.node) (IsOut a) frames one turn.turn.routed
   where
-    one : (o : Outgoing) → Stands frames o → IsRouted m.node o → IsOut a o
-    one o at r =
-        let x = the_some (neighbour_of m.node r.peer) r.there in
-        let other = neighbour_apart s a m (acquainted s.members s.air a m sound was) (member_at-is s.members a m was) r.peer x.0 x.1 in
+    own : m'.node.own ≡ node_word a
+    own = turn.turn.own ∙ (sound.numbered a m was).1
+
+    linked : (o : Outgoing) → Stands frames o → IsOnLink m'.node o → IsOut a o
+    linked o at r =
+        let other = after_number s.members s.air a r.peer m m'.node bytes step frames sound was turn.turn r.there in
         let to_it : is_to r.peer o.to ≡ true = ap (is_to r.peer) r.to_is ∙ grind (arith, nat_tests) in
         let for_it : is_out_to r.peer o ≡ true = ap (λ t. t && is_of_link o.frame) to_it ∙ r.link in
         let fit = (turned_with s (silenced s a m') a m m' bytes step frames (any frames) sound (all_lost s a m m' frames was) turn out (are_brought s a m m' bytes step frames sound was turn.turn out)
         r.peer other.0 other.1 (sound.pairs a r.peer (sound.numbered a m was).0 other.0 (λ e. other.1 (sym e)))).1 o (stands_passing (is_out_to r.peer) frames o at for_it) in
         record { bearer = fit.0; addressed = of_a_link r.link (record { receiver = r.peer; number = other.0; apart = other.1; to_is = r.to_is }); size = fit.1 }
 
--- of a node that comes to know a peer
-known_out : (s : Stage) (a peer bearer : ℕ) (before after : MemberState) (frames : List Outgoing) → IsSound s.members s.air → slice_index_or s.members a None ≡ Some before → after ≡ known_member before peer bearer
-    → frames ≡ known_frames before.node peer bearer → IsNumber peer → peer ≢ a → bearer ≤ 1 → end_with bearer (neighbour_of before.node peer) ≡ None → peer < length before.node.neighbours
-    → All (IsRouted (known_node before.node peer bearer)) (known_frames before.node peer bearer) → All (IsOut a) frames
-known_out s a peer bearer before after frames sound was then_ frames_are number apart low none within routed =
-    subst (All (IsOut a)) (sym frames_are) (all_weaker (IsFor (node_word peer)) (IsOut a) fs one (for_all (node_word peer) fs for_it))
-  where
-    fs : List Outgoing
-    fs = known_frames before.node peer bearer
+    to_other : (t : To) → IsToAnother m'.node t → IsToOther a t
+    to_other t r =
+        let other = other_number a r.peer (ap (λ word. is_other word (node_word r.peer)) (sym own) ∙ r.other) in
+        record { receiver = r.peer; number = other.0; apart = other.1; to_is = r.to_is }
 
-    for_it : AreFor (node_word peer) fs
-    for_it = known_for before peer bearer (λ y is. (pair_between s a peer before y sound (member_at-is s.members a before was) is).peer) routed
+    receivers : (t : To) → (t ≡ to.All) ⊎ IsToAnother m'.node t → IsToOther a t ⊎ (t ≡ to.All)
+    receivers t (inl all) = inr all
+    receivers t (inr one) = inl (to_other t one)
 
-    fit : AreFit fs
-    fit = (known_turned s (silenced s a after) a peer bearer before after frames (any frames) sound (all_lost s a before after frames was) then_ frames_are (sound.numbered a before was).1 low none within
-        routed apart (sound.pairs a peer (sound.numbered a before was).0 number (λ e. apart (sym e)))).1
+    found : (o : Outgoing) → IsOfDiscovery m'.node o → IsOut a o
+    found o r =
+        let boot = m'.node.boot in
+        let number = (sound.numbered a m was).0 in
+        let low : boot < 2 ^ 32 = subst (λ k. k < 2 ^ 32) (sym turn.turn.boot) (boot_fits s a m sound was) in
+        let frame : o.frame ≡ discovery_frame (node_word a) boot r.form = r.frame_is ∙ ap (λ word. discovery_frame word boot r.form) own in
+        let said : IsPacketOf a o.frame = subst (IsPacketOf a) (sym frame) (record { es = boot; er = 0; packet = discovery_packet (node_word a) r.form; is_from = discovery_from a boot r.form number.1 low }) in
+        let kind : kind_in o.frame ≡ Finds = ap kind_in frame ∙ discovery_kind (node_word a) boot r.form (omega (arith, number.1)) in
+        record { bearer = r.on_one; addressed = goes_out a o.frame o.to said kind r.low (receivers o.to r.receivers); size = ap (λ bs. is_frame_size (length bs)) frame ∙ discovery_size (node_word a) boot r.form }
 
-    one : (o : Outgoing) → Stands fs o → IsFor (node_word peer) o → IsOut a o
-    one o at for_peer = record { bearer = (fit o at).0; addressed = of_a_link for_peer.1 (record { receiver = peer; number = number; apart = apart; to_is = for_peer.0 }); size = (fit o at).1 }
+    one : (o : Outgoing) → Stands frames o → IsRouted m'.node o → IsOut a o
+    one o at (on_link r) = linked o at r
+    one o at (of_discovery r) = found o r
 
 -- a node that is there has a number
 pub there_number : (members : List (Option MemberState)) (air : AirState) (n : ℕ) → IsSound members air → is_some (slice_index_or members n None) ≡ true → IsNumber n
@@ -111,8 +118,6 @@ there_number members air n sound there = let m = the_some (slice_index_or member
 -- of any event
 pub all_out : (s : Stage) (by : By) (event : WorldEvent) (bytes : List ℕ) (before after : MemberState) (frames : List Outgoing) (answered : Answer) → IsSound s.members s.air
     → slice_index_or s.members (node_of event) None ≡ Some before → IsReady s.members s.air event bytes before → HasEffect by event bytes before after frames answered → All (IsOut (node_of event)) frames
-all_out s by (Know a peer bearer) bytes before after frames answered sound was ready h =
-    known_out s a peer bearer before after frames sound was h.0 h.1 (there_number s.members s.air peer sound ready.1) ready.0 ready.2 (not_known s.members a peer bearer before was ready.2 ready.3) h.3 h.6
 all_out s by (Restart a) bytes before after frames answered sound was ready h = subst (All (IsOut a)) (sym h.1) (All-nil (IsOut a))
 all_out s by (Call a call) bytes before after frames answered sound was ready h =
     turn_out s a before after [] (made_step by call before after frames answered h) frames sound was (made_turn by call before after frames answered h) (nothing_out s a call)
@@ -132,9 +137,8 @@ boxed_out members members' air by event bytes box box' answered sound ready empt
     subst (All (IsOut (node_of event))) (sym (alone_leaving adds)) (All-take (IsOut (node_of event)) adds.behind.count did.did.frames out)
 
 -- an event that can happen and is no arrival is ready to
-pub is_ready : (members : List (Option MemberState)) (air : AirState) (event : WorldEvent) → AreSettled members → ((node bearer frame : ℕ) → event ≡ Arrive node bearer frame → ⊥) → CanHappenAt members event → HasNextBoot members event
+pub is_ready : (members : List (Option MemberState)) (air : AirState) (event : WorldEvent) → ((node bearer frame : ℕ) → event ≡ Arrive node bearer frame → ⊥) → HasNextBoot members event
     → (m : MemberState) → slice_index_or members (node_of event) None ≡ Some m → IsReady members air event [] m
-is_ready members air (Know node peer bearer) settled other can boots m was = (can.2, can.1, can.3, can.4)
-is_ready members air (Restart node) settled other can boots m was = let next = boots m was in omega (arith, next)
-is_ready members air (Call node call) settled other can boots m was = tt
-is_ready members air (Arrive node bearer frame) settled other can boots m was = absurd (other node bearer frame refl)
+is_ready members air (Restart node) other boots m was = let next = boots m was in omega (arith, next)
+is_ready members air (Call node call) other boots m was = tt
+is_ready members air (Arrive node bearer frame) other boots m was = absurd (other node bearer frame refl)

@@ -1,6 +1,5 @@
 -- Every event leaves each two nodes paired.
-use Rattle.std.proofs.Common.{◌≡◌, ◌≢◌, ◌<◌, ◌≤◌, ◌+◌, ◌^◌, ℕ, Bool, true, false, List, [], Option, Some, None, length, slice_index_or, sym, ap, subst}
-use Rattle.std.specs.Prelude.{is_some}
+use Rattle.std.proofs.Common.{◌≡◌, ◌<◌, ◌+◌, ◌^◌, ℕ, Bool, List, [], Option, Some, None, length, sym, ap, subst}
 use Rattle.tipc_types.specs.declared.node_calls.Answer.{Answer}
 use Rattle.tipc_types.specs.declared.node_calls.By.{By}
 use Rattle.tipc_types.specs.declared.node_calls.Answer.TheVariants as answer
@@ -15,17 +14,16 @@ use Rattle.tipc_two_nodes.specs.Sights.{Comes}
 use Rattle.tipc_replay.specs.declared.air.Sent.{Sent}
 use Rattle.tipc_replay.specs.Skies.{AirState}
 use Rattle.tipc_replay.specs.declared.events.WorldEvent.{WorldEvent}
-use Rattle.tipc_replay.specs.declared.events.WorldEvent.TheVariants.{Know, Restart, Call, Arrive}
+use Rattle.tipc_replay.specs.declared.events.WorldEvent.TheVariants.{Restart, Call, Arrive}
 use Rattle.tipc_replay.specs.Calls.{node_of}
 use Rattle.tipc_replay.specs.Effects.{HasEffect, Makes, Meets}
 use Rattle.tipc_replay.specs.Due.{frame_for, unarrived}
 use Rattle.tipc_replay.specs.Sound.{IsSound}
-use Rattle.tipc_replay.specs.States.{MemberState, knows}
+use Rattle.tipc_replay.specs.States.{MemberState}
 use Rattle.tipc_replay.specs.Steps.{Happens, Stage, Turns}
 use Rattle.tipc_replay.proofs.pairs.Bringing.{are_brought}
 use Rattle.tipc_replay.proofs.frames.Coming.{ComesOut, comes, nothing_out}
-use Rattle.tipc_replay.proofs.Happening.{not_known}
-use Rattle.tipc_replay.proofs.pairs.PairedStarts.{know_pairs, restart_pairs}
+use Rattle.tipc_replay.proofs.pairs.PairedStarts.{restart_pairs}
 use Rattle.tipc_replay.proofs.pairs.PairedTurns.{TakesTurn, turn_pairs}
 use Rattle.tipc_replay.proofs.pairs.Turning.{AllPaired, sight_in}
 
@@ -72,10 +70,9 @@ taken_pairs old new a m m' bytes s frames lost sound t turn out =
 
 -- ---- all events
 
--- What an event needs besides. The node that comes to know another on a bearer doesn't know it there yet. A restart begins a boot
--- whose number has 32 bits. The bytes that arrive are those of the frame, which isn't too old.
+-- What an event needs besides. A restart begins a boot whose number has 32 bits. The bytes that arrive are those of the frame, which isn't too
+-- old.
 abbrev pub IsReady : List (Option MemberState) → AirState → WorldEvent → List ℕ → MemberState → Type 0
-IsReady members air (Know node peer bearer) bytes m = (peer ≢ node) × (is_some (slice_index_or members peer None) ≡ true) × (bearer ≤ 1) × (knows members node peer bearer ≡ false)
 IsReady members air (Restart node) bytes m = m.node.boot + 1 < 2 ^ 32
 IsReady members air (Call node call) bytes m = Unit {0}
 IsReady members air (Arrive node bearer place) bytes m = (f : Sent) × (frame_for air node bearer place ≡ Some f) × (unarrived members air node bearer place ≡ None) × (bytes ≡ f.frame)
@@ -85,8 +82,6 @@ ready_out s a bearer place bytes m sound ready number = subst (ComesOut s a (not
 
 pub does_pair : (old new : Stage) (by : By) (event : WorldEvent) (bytes : List ℕ) (before after : MemberState) (frames : List Outgoing) (answered : Answer) (lost : Bool) → IsSound old.members old.air
     → Turns old new (node_of event) before after frames lost → IsReady old.members old.air event bytes before → HasEffect by event bytes before after frames answered → AllPaired new
-does_pair old new by (Know a peer bearer) bytes before after frames answered lost sound t ready h =
-    know_pairs old new a peer bearer before after frames lost sound t h.0 h.1 (sound.numbered a before t.was).1 ready.2 (not_known old.members a peer bearer before t.was ready.2 ready.3) h.3 h.6
 does_pair old new by (Restart a) bytes before after frames answered lost sound t ready h = restart_pairs old new a before after frames lost sound.pairs t h.0 h.1 ready
 does_pair old new by (Call a call) bytes before after frames answered lost sound t ready h =
     taken_pairs old new a before after [] (made_step by call before after frames answered h) frames lost sound t (made_turn by call before after frames answered h) (nothing_out old a call)

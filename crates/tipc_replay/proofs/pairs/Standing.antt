@@ -1,10 +1,11 @@
 -- What a sound world says of a node and its neighbours.
-use Rattle.std.proofs.Common.{◌⊎◌, ◌≡◌, ◌≢◌, ℕ, true, false, List, refl, Option, Some, None, option_map, slice_index_or, sym, ap, ◌∙◌, inl, inr, arith}
+use Rattle.std.proofs.Common.{◌⊎◌, ◌≡◌, ◌≢◌, ◌^◌, ℕ, true, false, List, refl, Option, Some, None, option_map, slice_index_or, sym, ap, ◌∙◌, subst, inl, inr, arith}
 use Rattle.tipc_types.specs.Address.{node_word}
 use Rattle.std.specs.Prelude.{◌<◌, ◌≤◌, ◌==◌, ◌&&◌, is_some, nat_le, nat_lt, not}
-use Rattle.std.proofs.lemmas.Bool.{and_parts, cases_lt}
+use Rattle.std.proofs.lemmas.Bool.{and_parts, cases_eq, cases_lt}
 use Rattle.std.proofs.lemmas.Bool.Decides.{nat_tests}
-use Rattle.tipc_two_nodes.specs.Sights.{pair_seen}
+use Rattle.tipc_paired.specs.Paired.{IsNode}
+use Rattle.tipc_two_nodes.specs.Sights.{AreSeen, Sight, pair_seen}
 use Rattle.tipc_node.specs.declared.neighbours.Neighbour.{Neighbour}
 use Rattle.tipc_outside.specs.declared.outgoing.Outgoing.{Outgoing}
 use Rattle.tipc_journal.specs.Steps.{NodeStep}
@@ -15,6 +16,7 @@ use Rattle.tipc_replay.specs.Skies.{AirState}
 use Rattle.tipc_replay.specs.Sound.{IsNumber, IsPairOf, IsSound}
 use Rattle.tipc_replay.specs.States.{MemberState, member_at, pair_at}
 use Rattle.tipc_replay.specs.Steps.{Stage, stage}
+use Rattle.tipc_replay.specs.Views.{sight_at}
 use Rattle.tipc_replay.proofs.LookUps.{boot_at-is, member_at-is, pair_at-is}
 use Rattle.tipc_replay.proofs.pairs.Pairings.{seen_alone, seen_is}
 use Rattle.tipc_replay.proofs.pairs.Turning.{sight_in}
@@ -50,6 +52,25 @@ kept_sight s a b m sound was own = case (neighbour_of m.node b) refl
         let boot = boot_at-is s.members a m was in
         seen_alone s.members s.air a b (pair_is s a b m None was is) ∙ (λ i. alone (sym own i) (node_word b) (boot i))
     case (Some y) is = pair_sight s a b m y sound was is
+
+-- each of two nodes that talk is a node
+pub seen_node : (v w : Sight) → AreSeen v w → IsNode v.node
+seen_node v w h = subst IsNode h.seen_here.node h.talking.twins.paired.here.node
+
+-- there is another number
+another : (a : ℕ) → (b : ℕ) × IsNumber b × (a ≢ b)
+another a = elim (cases_eq a 1) [
+  | inl one ↦ (2, (omega arith, omega arith), λ same. (let wrong : ⊥ = omega (arith, one, same) in wrong))
+  | inr other ↦ (1, (omega arith, omega arith), other)
+]
+
+-- the number of a boot has 32 bits
+pub boot_fits : (s : Stage) (a : ℕ) (m : MemberState) → IsSound s.members s.air → slice_index_or s.members a None ≡ Some m → m.node.boot < 2 ^ 32
+unfolding sight_at
+boot_fits s a m sound was =
+    let b = another a in
+    let seen = sound.pairs a b.0 (sound.numbered a m was).0 b.1 b.2 in
+    subst (λ k. k < 2 ^ 32) (boot_at-is s.members a m (member_at-is s.members a m was)) (seen_node (sight_in s a b.0) (sight_in s b.0 a) seen).boot
 
 -- ---- all pairs of a node
 

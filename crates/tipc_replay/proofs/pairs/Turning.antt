@@ -77,15 +77,6 @@ pub record IsChanged (word : ℕ) (before after : MemberState) (frames : List Ou
   pub given_is : (own theirs : ℕ) → given_in (history after) b own theirs ≡ given_in (history before) b own theirs ++ come_in x.contact x.seen given own theirs
   pub numbered_else : (bearer epoch : ℕ) → (HasSession (link_in after.node b bearer) epoch → ⊥) → count_of after b bearer epoch ≡ count_of before b bearer epoch
 
--- nothing concerned b
-pub record IsIdle (word : ℕ) (before after : MemberState) (frames : List Outgoing) (b : ℕ) : Type 0 where
-  pub boot : after.node.boot ≡ before.node.boot
-  pub pair : pair_in after.node b ≡ pair_in before.node b
-  pub frames_are : frames_to b frames ≡ []
-  pub put_is : (own theirs : ℕ) → put_in word (history after) b own theirs ≡ put_in word (history before) b own theirs
-  pub given_is : (own theirs : ℕ) → given_in (history after) b own theirs ≡ given_in (history before) b own theirs
-  pub numbered : (bearer epoch : ℕ) → count_of after b bearer epoch ≡ count_of before b bearer epoch
-
 -- the packets of two histories, as the pair has them
 put_was : (old new : Stage) (a : ℕ) (before after : MemberState) (frames : List Outgoing) (lost : Bool) (b : ℕ) (more : ℕ → ℕ → List (List ℕ)) → Turns old new a before after frames lost
     → ((own theirs : ℕ) → put_in (node_word a) (history after) b own theirs ≡ put_in (node_word a) (history before) b own theirs ++ more own theirs) → (own theirs : ℕ) → put_in (node_word a) (history_at new.members a) b own theirs ≡ put_in (node_word a) (history_at old.members a) b own theirs ++ more own theirs
@@ -163,27 +154,6 @@ pub same_numbered : (old new : Stage) (a : ℕ) (before after : MemberState) (fr
     → ((bearer epoch : ℕ) → count_of after b bearer epoch ≡ count_of before b bearer epoch) → (bearer epoch : ℕ) → count_at new.members a b bearer epoch ≡ count_at old.members a b bearer epoch
 same_numbered old new a before after frames lost b t same bearer epoch =
     count_at-is new.members a b bearer epoch after (is_there old new a before after frames lost t) ∙ same bearer epoch ∙ sym (count_at-is old.members a b bearer epoch before (was_there old new a before after frames lost t))
-
--- a node that nothing concerned is to b as it was
-sight_idle : (old new : Stage) (a : ℕ) (before after : MemberState) (frames : List Outgoing) (lost : Bool) (b : ℕ)
-    → Turns old new a before after frames lost → IsIdle (node_word a) before after frames b → sight_in new a b ≡ sight_in old a b
-unfolding sight_at
-sight_idle old new a before after frames lost b t c =
-    let was = was_there old new a before after frames lost t in
-    let is = is_there old new a before after frames lost t in
-    let boot = boot_at-is new.members a after is ∙ c.boot ∙ sym (boot_at-is old.members a before was) in
-    let pair = pair_at-is new.members a b after is ∙ c.pair ∙ sym (pair_at-is old.members a b before was) in
-    let put = same_put old new a before after frames lost b t c.put_is in
-    let given = same_given old new a before after frames lost b t c.given_is in
-    let numbered = same_numbered old new a before after frames lost b t c.numbered in
-    let sent = same_sent old new a before after frames lost b t c.frames_are in
-    λ i. sight_from a b (boot i) (pair i) (λ own theirs. put own theirs i) (λ own theirs. given own theirs i) (λ bearer epoch. numbered bearer epoch i) (sent i)
-
--- so the two are partners as they were
-pub idle_pair : (old new : Stage) (a : ℕ) (before after : MemberState) (frames : List Outgoing) (lost : Bool) (b : ℕ)
-    → Turns old new a before after frames lost → IsIdle (node_word a) before after frames b
-    → PartnersIn old old a b → PartnersIn new old a b
-idle_pair old new a before after frames lost b t c h = subst (λ v. AreSeen v (sight_in old b a)) (sym (sight_idle old new a before after frames lost b t c)) h
 
 -- ---- all pairs
 

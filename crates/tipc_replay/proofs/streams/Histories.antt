@@ -35,11 +35,6 @@ history_longer m m' es past journal =
     let one : history m' ≡ before m ++ m'.node.journal = ap (λ p. flat_map (λ entries. entries) p ++ m'.node.journal) past in
     one ∙ ap (λ j. before m ++ j) journal ∙ sym (append_assoc (before m) m.node.journal es)
 
-pub history_same : (m m' : MemberState) → m'.past ≡ m.past → m'.node.journal ≡ m.node.journal → history m' ≡ history m
-unfolding history
-history_same m m' past journal =
-    ap (λ p. flat_map (λ entries. entries) p ++ m'.node.journal) past ∙ ap (λ j. flat_map (λ entries. entries) m.past ++ j) journal
-
 -- a restart keeps the history
 pub history_restarted : (m m' : MemberState) → IsRestarted m m' → history m' ≡ history m
 unfolding history

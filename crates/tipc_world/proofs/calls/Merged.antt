@@ -1,7 +1,6 @@
 -- What an event adds to the calls in order of their stamps.
 use Rattle.std.proofs.Common.{◌≡◌, ◌+◌, ◌++◌, ◌∷◌, ℕ, Bool, List, [], Option, Some, None, Result, Ok, Err, length, slice_index_or, slice_set, refl, sym, ap, subst, ◌∙◌, arith}
 use Rattle.std.specs.Prelude.{IfErr, IfOk, if◌then◌else◌, is_none, option_map, unwrap_or}
-use Rattle.std.proofs.lemmas.List.{append-nil}
 use Rattle.tipc_types.specs.declared.node_calls.Answer.{Answer}
 use Rattle.tipc_types.specs.declared.node_calls.EventNote.TheVariants as note
 use Rattle.tipc_outside.specs.declared.outgoing.Outgoing.{Outgoing}
@@ -9,11 +8,11 @@ use Rattle.tipc_pick.specs.Choosing.{Choosing}
 use Rattle.tipc_node.specs.Sockets.{kept_answer}
 use Rattle.tipc_world.specs.declared.faults.Limit.TheVariants as limit
 use Rattle.tipc_replay.specs.declared.events.WorldEvent.{WorldEvent}
-use Rattle.tipc_replay.specs.declared.events.WorldEvent.TheVariants.{Know, Restart, Call, Arrive}
+use Rattle.tipc_replay.specs.declared.events.WorldEvent.TheVariants.{Restart, Call, Arrive}
 use Rattle.tipc_world.specs.declared.faults.WorldFault.{WorldFault}
 use Rattle.tipc_world.specs.declared.faults.WorldFault.TheVariants as fault
 use Rattle.tipc_world.specs.Answered.{AreOrderly}
-use Rattle.tipc_replay.specs.States.{journals_of, MemberState, arrivals_at}
+use Rattle.tipc_replay.specs.States.{MemberState, arrivals_at}
 use Rattle.tipc_replay.specs.Calls.{node_of}
 use Rattle.tipc_replay.specs.Effects.{HasEffect}
 use Rattle.tipc_replay.specs.Due.{unarrived}
@@ -48,7 +47,6 @@ made_at other m answered = []
 
 does_extend : (old : List (Option MemberState)) (stamp : ℕ) (event : WorldEvent) (bytes : List ℕ) (m m' : MemberState) (frames : List Outgoing) (answered : Answer) → slice_index_or old (node_of event) None ≡ Some m
     → HasEffect (next_by stamp m) event bytes m m' frames answered → Extends old (slice_set old (node_of event) (Some m')) stamp (made_at event m answered)
-does_extend old stamp (Know a peer bearer) bytes m m' frames answered was h = extends_none old a stamp m m' was (stay_longer m m' [] (ap journals_of h.0 ∙ sym (append-nil (journals_of m))))
 does_extend old stamp (Restart a) bytes m m' frames answered was h = extends_none old a stamp m m' was (stay_longer m m' ([] ∷ []) (restart_journals m m' h.0))
 does_extend old stamp (Call a call) bytes m m' frames answered was h =
     extends_one old a stamp m m' (made_step (next_by stamp m) call m m' frames answered h) _ was (ap (λ (x : MemberState). x.past) h.after) h.turn.turn.journal h.turn.told_before.whole h.turn.turn.inside refl refl
@@ -97,9 +95,6 @@ arrival_extends old new node bearer frame answered lost (Some why) due h stamps 
 -- What an event adds to the calls of a world, where they are merged before and after it.
 pub event_adds : (old new : WorldState) (event : WorldEvent) (answered : Answer) → AreMerged old.members old.stamps (merged old) → AreMerged new.members new.stamps (merged new) → IsStep old event new answered
     → merged new ≡ merged old ++ recorded_by old event answered
-event_adds old new (Know node peer bearer) answered before after h =
-    let stamps = h.stamps in
-    merged_extends old new [] before after (happens_extend (stage old.members old.air) (stage new.members new.air) old.stamps (Know node peer bearer) [] answered h.lost h.becomes) (omega (arith, stamps))
 event_adds old new (Restart node) answered before after h =
     let stamps = h.stamps in
     merged_extends old new [] before after (happens_extend (stage old.members old.air) (stage new.members new.air) old.stamps (Restart node) [] answered h.lost h.becomes) (omega (arith, stamps))

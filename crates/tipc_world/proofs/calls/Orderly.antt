@@ -16,7 +16,7 @@ use Rattle.tipc_node.specs.Nodes.{step_of}
 use Rattle.tipc_node.specs.Sockets.{kept_answer}
 use Rattle.tipc_node.specs.Works.{addr_of_word}
 use Rattle.tipc_replay.specs.declared.events.WorldEvent.{WorldEvent}
-use Rattle.tipc_replay.specs.declared.events.WorldEvent.TheVariants.{Know, Restart, Call, Arrive}
+use Rattle.tipc_replay.specs.declared.events.WorldEvent.TheVariants.{Restart, Call, Arrive}
 use Rattle.tipc_world.specs.Answered.{AreOrderly}
 use Rattle.tipc_replay.specs.Calls.{is_call_at, is_recorded, node_of, CanHappenAt}
 use Rattle.tipc_replay.specs.Choices.{Chooses, ChoosesAt, after_choice}
@@ -29,7 +29,7 @@ use Rattle.tipc_replay.specs.Steps.{stage, Becomes, Happens, IsArrival, Stage}
 use Rattle.tipc_world.proofs.Advancing.{by_is, next_by, step_of as world_step, world_of, Counts, HaveNumbers, Steps}
 use Rattle.tipc_replay.proofs.calls.Calls.{the_some}
 use Rattle.tipc_replay.proofs.pairs.PairedEvents.{made_step, met_step}
-use Rattle.tipc_world.proofs.calls.Quiet.{know_orderly, restart_orderly}
+use Rattle.tipc_world.proofs.calls.Quiet.{restart_orderly}
 use Rattle.tipc_world.proofs.calls.Recording.{Records, recorded_orderly}
 
 -- ---- what the journal keeps of an answer
@@ -87,9 +87,6 @@ met_orderly gives members a recorded bearer place bytes m m' frames answered cho
 does_orderly : {P : Type 0} (gives : P → ℕ → ℕ → ℕ → Type 0) (members : List (Option MemberState)) (recorded : ℕ) (event : WorldEvent) (bytes : List ℕ) (m m' : MemberState) (frames : List Outgoing) (answered : Answer)
     (chooser chooser' : Choosing P) → HaveNumbers members → slice_index_or members (node_of event) None ≡ Some m → HasEffect (next_by recorded m) event bytes m m' frames answered → Chooses gives m event answered chooser chooser'
     → AreOrderly gives members recorded chooser → AreOrderly gives (slice_set members (node_of event) (Some m')) (if is_recorded event then recorded + 1 else recorded) chooser'
-does_orderly gives members recorded (Know a peer bearer) bytes m m' frames answered chooser chooser' numbers was h c orderly =
-    subst (AreOrderly gives (slice_set members a (Some m')) recorded) (sym c.turns)
-    (subst (λ k. AreOrderly gives (slice_set members a (Some k)) recorded chooser) (sym h.0) (know_orderly gives members recorded a peer bearer chooser m was orderly))
 does_orderly gives members recorded (Restart a) bytes m m' frames answered chooser chooser' numbers was h c orderly =
     subst (AreOrderly gives (slice_set members a (Some m')) recorded) (sym c.turns) (restart_orderly gives members recorded a chooser m m' was h.0 orderly)
 does_orderly gives members recorded (Call a call) bytes m m' frames answered chooser chooser' numbers was h c orderly = made_orderly gives members a recorded call m m' frames answered chooser chooser' numbers was h c orderly
@@ -118,7 +115,6 @@ arrival_orderly gives old new recorded node bearer place answered lost chooser c
 becomes_orderly : {P : Type 0} (gives : P → ℕ → ℕ → ℕ → Type 0) (old new : Stage) (recorded : ℕ) (event : WorldEvent) (answered : Answer) (lost : Bool) (chooser chooser' : Choosing P) → CanHappenAt old.members event
     → HaveNumbers old.members → Becomes old (by_in old.members recorded event) event new answered lost → ChoosesAt gives old.members event answered chooser chooser' → AreOrderly gives old.members recorded chooser
     → AreOrderly gives new.members (if is_call_at old.members old.air event then recorded + 1 else recorded) chooser'
-becomes_orderly gives old new recorded (Know node peer bearer) answered lost chooser chooser' can numbers h c orderly = happens_orderly gives old new recorded (Know node peer bearer) [] answered lost chooser chooser' numbers h c orderly
 becomes_orderly gives old new recorded (Restart node) answered lost chooser chooser' can numbers h c orderly = happens_orderly gives old new recorded (Restart node) [] answered lost chooser chooser' numbers h c orderly
 becomes_orderly gives old new recorded (Call node call) answered lost chooser chooser' can numbers h c orderly = happens_orderly gives old new recorded (Call node call) [] answered lost chooser chooser' numbers h c orderly
 becomes_orderly gives old new recorded (Arrive node bearer place) answered lost chooser chooser' can numbers h c orderly =

@@ -2,7 +2,6 @@
 use Rattle.std.proofs.Common.{◌≡◌, ◌≢◌, ◌<◌, ◌⊎◌, ◌%◌, ◌^◌, ℕ, zero, suc, List, [], ◌∷◌, ◌++◌, Option, Some, None, length, slice_get, slice_index_or, slice_set, sum_by, refl, sym, ap, subst, ◌∙◌, inl, inr, get_or-set_same, get_or-set_other, arith}
 use Rattle.std.specs.List.{All}
 use Rattle.std.proofs.lemmas.Bool.{cases_eq}
-use Rattle.std.proofs.lemmas.List.{append-nil}
 use Rattle.std.proofs.lemmas.List.Elements.{All-nil}
 use Rattle.tipc_types.specs.declared.identity.Addr.{Addr}
 use Rattle.tipc_pick.specs.Choosing.{Choosing}
@@ -15,7 +14,7 @@ use Rattle.tipc_node.specs.Turns.{addr_of}
 use Rattle.tipc_world.specs.Answered.{AreInOrder, sent_in, sum_to, turn_at, AreOrderly, HasStamp}
 use Rattle.tipc_replay.specs.States.{journal_at, journals_of, MemberState}
 use Rattle.tipc_replay.specs.Events.{JoinsAt}
-use Rattle.tipc_replay.specs.Members.{IsNewcomer, IsRestarted, known_member}
+use Rattle.tipc_replay.specs.Members.{IsNewcomer, IsRestarted}
 use Rattle.tipc_world.proofs.calls.Adding.{stamp_lasts, stay_longer, Stay}
 use Rattle.tipc_replay.proofs.calls.Journals.{restart_journals, get_more, journal_at-is, journal_at-none, journal_at-same}
 use Rattle.tipc_replay.proofs.LookUps.{place_within}
@@ -123,15 +122,6 @@ quiet_set old a before after was counted q = record {
     others : (n : ℕ) → n ≢ a → slice_index_or new n None ≡ slice_index_or old n None
     others n apart = get_or-set_other old a n (Some after) None apart
 
--- a node comes to know another
-know_quiet : (m : MemberState) (peer bearer : ℕ) → QuietAt m (known_member m peer bearer)
-know_quiet m peer bearer = record {
-  journals = λ boot journal there. inl there;
-  stay = stay_longer m (known_member m peer bearer) [] (sym (append-nil (journals_of m)));
-  sent = λ stamp. refl;
-  calls = λ h. h;
-}
-
 -- a node is restarted
 restart_quiet : (m m' : MemberState) → IsRestarted m m' → QuietAt m m'
 restart_quiet m m' r = record {
@@ -152,11 +142,6 @@ restart_quiet m m' r = record {
     by : (journal : List Entry) {boot : ℕ} → (slice_get (journals_of m) boot ≡ Some journal) ⊎ ((boot ≡ length (journals_of m)) × ([] ≡ journal)) → (slice_get (journals_of m) boot ≡ Some journal) ⊎ (journal ≡ [])
     by journal (inl old) = inl old
     by journal (inr last) = inr (sym last.1)
-
-pub know_orderly : {P : Type 0} (gives : P → ℕ → ℕ → ℕ → Type 0) (old : List (Option MemberState)) (recorded a peer bearer : ℕ) (chooser : Choosing P) (before : MemberState) → slice_index_or old a None ≡ Some before
-    → AreOrderly gives old recorded chooser → AreOrderly gives (slice_set old a (Some (known_member before peer bearer))) recorded chooser
-know_orderly gives old recorded a peer bearer chooser before was h =
-    quiet_orderly gives old (slice_set old a (Some (known_member before peer bearer))) recorded chooser h (quiet_set old a before (known_member before peer bearer) was h.calls (know_quiet before peer bearer))
 
 pub restart_orderly : {P : Type 0} (gives : P → ℕ → ℕ → ℕ → Type 0) (old : List (Option MemberState)) (recorded a : ℕ) (chooser : Choosing P) (before after : MemberState) → slice_index_or old a None ≡ Some before
     → IsRestarted before after → AreOrderly gives old recorded chooser → AreOrderly gives (slice_set old a (Some after)) recorded chooser

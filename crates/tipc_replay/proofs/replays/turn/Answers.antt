@@ -10,7 +10,7 @@ use Rattle.tipc_replay.proofs.replays.turn.Goals as goal
 
 pub happen_at-requires : goal.happen_at-requires
 happen_at-requires g c = record {
-  can = can_do c.args.members.now.items c.args.event c.requires.settled c.requires.other c.requires.can c.requires.next;
+  can = can_do c.args.members.now.items c.args.event c.requires.other c.requires.can c.requires.next;
   there = at_its_node c.args.members.now.items c.args.event c.requires.other c.requires.can;
   settled = c.requires.settled;
 }
@@ -22,7 +22,7 @@ emit-lost-requires g c =
     record {
       number = subst (λ n. (1 ≤ n) × (n ≤ 32)) (sym c.node-node.ensures) (there_settled ms at c.requires.settled (at_its_node ms c.args.event c.requires.other c.requires.can));
       outward = subst (λ n. All (IsOut n) (frames_leaving c.happen_at.new.out)) (sym c.node-node.ensures)
-          (boxed_out ms _ c.args.air.now _ c.args.event [] _ _ _ c.requires.sound (is_ready ms c.args.air.now c.args.event c.requires.settled c.requires.other c.requires.can c.requires.next) c.new-out.ensures c.in_ok-answer.ensures.did);
+          (boxed_out ms _ c.args.air.now _ c.args.event [] _ _ _ c.requires.sound (is_ready ms c.args.air.now c.args.event c.requires.other c.requires.next) c.new-out.ensures c.in_ok-answer.ensures.did);
     }
 
 pub returns-clause-happens : goal.returns-clause-happens

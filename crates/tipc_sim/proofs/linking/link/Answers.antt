@@ -3,7 +3,7 @@ use Rattle.std.proofs.lemmas.Result.{err_from_is_err_and}
 use Rattle.tipc_world.specs.declared.settling.Receivers.TheVariants.{Both}
 use Rattle.tipc_world.specs.Courses.{numbers, Drains}
 use Rattle.tipc_world.specs.Settling.{arrival_asked}
-use Rattle.tipc_sim.specs.Meanings.{Joins}
+use Rattle.tipc_sim.specs.Meanings.{MendsBoth}
 use Rattle.tipc_sim.proofs.CourseLaws.{links_halt}
 use Rattle.tipc_world.proofs.CourseLaws.{then_came, then_stopped}
 use Rattle.tipc_world.proofs.Continuing.{continues_more}
@@ -11,25 +11,24 @@ use Rattle.tipc_sim.proofs.linking.link.Goals as goal
 
 pub returns-in_err-drain-clause-comes : goal.returns-in_err-drain-clause-comes
 returns-in_err-drain-clause-comes g c =
-    let named = c.args.notes.now.named in
     let start = c.args.world.now.state in
     let now = c.drain.new.world.state in
     let place = c.air_len-place.result in
     let p = err_from_is_err_and c.from_residual-in_err-drain.result c.from_residual-in_err-drain.ensures.1 in
-    rw (p.1, p.2) (links_halt named c.args.first c.args.second c.args.bearer place start now c.in_err-drain.field-0.0 c.air_len-place.ensures.len
-    (then_came (Joins named c.args.first c.args.second c.args.bearer) (Drains (arrival_asked (Both c.args.first c.args.second) c.args.bearer) c.args.bearer (numbers * place)) start c.join.new.world.state now _ (Err c.in_err-drain.field-0.0)
-    c.in_ok-join.ensures.comes c.in_err-drain.ensures.comes))
+    rw (p.1, p.2) (links_halt c.args.first c.args.second c.args.bearer place start now c.in_err-drain.field-0.0 c.air_len-place.ensures.len
+    (then_came (MendsBoth c.args.first c.args.second c.args.bearer) (Drains (arrival_asked (Both c.args.first c.args.second) c.args.bearer) c.args.bearer (numbers * place)) start c.mend_both.new.world.state now _ (Err c.in_err-drain.field-0.0)
+    c.in_ok-mend_both.ensures.comes c.in_err-drain.ensures.comes))
 
 pub returns-in_err-drain-clause-continues : goal.returns-in_err-drain-clause-continues
-returns-in_err-drain-clause-continues g c = continues_more c.args.world.now c.join.new.world c.drain.new.world c.join.ensures.continues c.drain.ensures.continues
+returns-in_err-drain-clause-continues g c = continues_more c.args.world.now c.mend_both.new.world c.drain.new.world c.mend_both.ensures.continues c.drain.ensures.continues
 
 pub returns-clause-continues : goal.returns-clause-continues
-returns-clause-continues g c = continues_more c.args.world.now c.join.new.world c.drain.new.world c.join.ensures.continues c.drain.ensures.continues
+returns-clause-continues g c = continues_more c.args.world.now c.mend_both.new.world c.drain.new.world c.mend_both.ensures.continues c.drain.ensures.continues
 
-pub returns-in_err-join-clause-comes : goal.returns-in_err-join-clause-comes
-returns-in_err-join-clause-comes g c =
+pub returns-in_err-mend_both-clause-comes : goal.returns-in_err-mend_both-clause-comes
+returns-in_err-mend_both-clause-comes g c =
     let place = c.air_len-place.result in
     let p = err_from_is_err_and c.from_residual.result c.from_residual.ensures.1 in
-    rw (p.1, p.2) (links_halt c.args.notes.now.named c.args.first c.args.second c.args.bearer place c.args.world.now.state c.join.new.world.state c.in_err-join.field-0.0 c.air_len-place.ensures.len
-    (then_stopped (Joins c.args.notes.now.named c.args.first c.args.second c.args.bearer) (Drains (arrival_asked (Both c.args.first c.args.second) c.args.bearer) c.args.bearer (numbers * place)) c.args.world.now.state c.join.new.world.state
-    c.in_err-join.field-0.0 c.in_err-join.ensures.comes))
+    rw (p.1, p.2) (links_halt c.args.first c.args.second c.args.bearer place c.args.world.now.state c.mend_both.new.world.state c.in_err-mend_both.field-0.0 c.air_len-place.ensures.len
+    (then_stopped (MendsBoth c.args.first c.args.second c.args.bearer) (Drains (arrival_asked (Both c.args.first c.args.second) c.args.bearer) c.args.bearer (numbers * place)) c.args.world.now.state c.mend_both.new.world.state
+    c.in_err-mend_both.field-0.0 c.in_err-mend_both.ensures.comes))

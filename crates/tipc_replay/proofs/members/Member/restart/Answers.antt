@@ -1,6 +1,7 @@
 use Rattle.std.proofs.Common.{◌≡◌, ◌<◌, ◌+◌, ◌++◌, ◌∷◌, ◌∙◌, ℕ, [], None, map, ap, refl, sym, subst}
 use Rattle.std.proofs.lemmas.List.{map-append}
 use Rattle.tipc_sockets.specs.SocketTables.{no_sockets}
+use Rattle.tipc_node.specs.Finding.{nobody_heard}
 use Rattle.tipc_node.specs.Nodes.{neighbour_of}
 use Rattle.tipc_replay.specs.Members.{IsFresh, IsRestarted}
 use Rattle.tipc_replay.specs.States.{MemberState}
@@ -15,6 +16,8 @@ returns-clause-ok c =
       own_is = c.in_ok-next.ensures.own.0 ∙ c.own.ensures;
       boot_is = c.in_ok-next.ensures.own.1 ∙ ap (λ b. b + 1) c.boot.ensures;
       cut = c.in_ok-next.ensures.own.2;
+      unheard = c.in_ok-next.ensures.unheard ∙ ap nobody_heard c.own.ensures;
+      unticked = c.in_ok-next.ensures.ticks;
       alone = c.in_ok-next.ensures.alone;
       sockets = c.in_ok-next.ensures.empty.0 ∙ ap (λ own. no_sockets own (c.boot.result + 1)) c.own.ensures ∙ ap (λ b. no_sockets m.node.own (b + 1)) c.boot.ensures;
       no_history = c.in_ok-next.ensures.empty.1;

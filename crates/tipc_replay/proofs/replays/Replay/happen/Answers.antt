@@ -1,6 +1,6 @@
 use Rattle.std.proofs.Common.{refl, subst, sym, ◌||◌}
 use Rattle.tipc_replay.specs.Answered.{AllAnswered}
-use Rattle.tipc_replay.specs.Calls.{CanHappenAt, HasNextBoot}
+use Rattle.tipc_replay.specs.Calls.{HasNextBoot}
 use Rattle.tipc_replay.specs.Received.{AreReceived}
 use Rattle.tipc_replay.specs.Shared.{AreShared}
 use Rattle.tipc_replay.specs.Sound.{IsSound}
@@ -24,13 +24,12 @@ invariant_of-self-2 g c =
     let h = c.self.invariant in
     let old : Stage = stage w.members.items w.air in
     let new : Stage = stage c.happen.new.members.items c.happen.new.air in
-    let can = subst (λ (r : ReplayState). CanHappenAt r.members c.args.event) (sym c.self.view_is) c.requires.can in
     let next = subst (λ (r : ReplayState). HasNextBoot r.members c.args.event) (sym c.self.view_is) c.requires.next in
     let becomes = c.in_ok-happened.ensures.becomes in
-    let sound = becomes_sound old new c.args.by c.args.event _ _ h.0 next can becomes in
-    let shared = becomes_shared old new c.args.by c.args.event _ _ can h.0 h.2 becomes in (
+    let sound = becomes_sound old new c.args.by c.args.event _ _ h.0 next becomes in
+    let shared = becomes_shared old new c.args.by c.args.event _ _ h.0 h.2 becomes in (
       sound,
-      becomes_watched old new c.args.by c.args.event _ _ h.0 h.1 next can becomes,
+      becomes_watched old new c.args.by c.args.event _ _ h.0 h.1 next becomes,
       shared,
       becomes_answered old new c.args.by c.args.event _ _ sound shared h.3 becomes,
       becomes_received old new c.args.by c.args.event _ _ h.4 becomes,
