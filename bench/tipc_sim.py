@@ -80,7 +80,7 @@ def measure_names(messages: int) -> None:
 def measure_publications(peers: int, publications: int) -> None:
     """Prints what publications cost of which so many peers are told, one after the other, and what each item costs."""
     nodes = "".join(f"node {number}\n" for number in range(1, peers + 2))
-    nodes += "".join(f"link 1 {number} 0\n" for number in range(2, peers + 2)) + "socket 1\n"
+    nodes += "".join(f"link 1 {number} 0\n" for number in range(2, peers + 2)) + "mark\nsocket 1\n"
     lines = "".join(f"publish 1 1 100 {key} {key} cluster {key}\n" + ("pump 0\n" if key % 50 == 0 else "") for key in range(publications))
     took = seconds_of(nodes + lines + "pump 0\n") - seconds_of(nodes)
     print(f"{publications} publications, {peers} peers told: {took:.3f} s, {took / publications / peers * 1e6:.1f} microseconds an item")

@@ -5,8 +5,8 @@ chart.py PROGRAM SCRIPT [--html]: prints the chart as SVG, or as one HTML page t
 
 Time goes down. Each node has a line of its own. At the left stand the script's lines with their answers; a line that
 lets frames arrive has each of them beneath it. An arrow goes from where and when a frame was sent to where and when it
-arrived, and tells its kind, its number and the answer. A frame that never arrives is a short line with a cross. An
-arrow has a colour by its answer: taken; held, that is deferred; late, that is ignored or too old. A `link` line tells
+arrived, and tells its kind, its number and the answer; a frame to all has an arrow to each node at which it arrived. A frame
+that never arrives is a short line with a cross. An arrow has a colour by its answer: taken; held, that is deferred; late, that is ignored or too old. A `link` line tells
 neither the answers of its frames nor when each was sent: these arrows begin just above their heads. Frames of bearer 1
 are dashed.
 """
@@ -177,7 +177,7 @@ class Drawing:
 
     def arrow(self, arrival: tracing.Arrival, begin: int, end: int) -> str:
         frame, kind = arrival.frame, class_of(arrival.answer)
-        start, stop = self.nodes[frame.sender], self.nodes[frame.receiver]
+        start, stop = self.nodes[frame.sender], self.nodes[arrival.node]
         dash = DASHED if frame.bearer else ""
         label = frame.name() + (f": {arrival.answer}" if arrival.answer else "")
         names = f'data-line="{arrival.line}" data-bearer="{frame.bearer}" data-frame="{frame.place}"'
@@ -191,7 +191,7 @@ class Drawing:
         parts = []
         for frame, y in zip(self.told.lost(), self.places.lost):
             start, colour = self.nodes[frame.sender], COLOURS["lost"]
-            way = 1 if self.nodes[frame.receiver] > start else -1
+            way = 1 if self.nodes.get(frame.receiver, start + 1) > start else -1
             dash = DASHED if frame.bearer else ""
             x, at = start + way * 46, y - 4
             names = f'data-bearer="{frame.bearer}" data-frame="{frame.place}"'

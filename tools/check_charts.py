@@ -5,7 +5,7 @@ check_charts.py PROGRAM: each stored chart (docs/charts/NAME.svg, of examples/NA
 (docs/picture.svg) has to be what tools/chart.py and tools/picture.py draw now. And each chart of the examples, and of
 the rows that are run to their end and aren't long, is drawn and counted: the answers beside its lines are those of the
 report; a line `pump` has as many arrows as it pumped, and a line `arrive` one, unless there was no frame; and each frame
-of the air, of which `air` tells how many there are, has an arrow, or the cross of one that never arrives, and not both.
+of the air, of which `air` tells how many there are, has an arrow or more, or the cross of one that never arrives, and not both.
 It ends with a line `N passed, M failed`.
 
 check_charts.py PROGRAM --write: draws the stored charts and the picture anew.

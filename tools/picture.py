@@ -113,7 +113,7 @@ def air(world: World, bearer: int) -> list:
         x = 130 + 180 * place
         parts.append(box(x, y + 5, 170, AIR_STEP - 20, "arrived" if arrived else "away"))
         parts.append(text_at(x + 8, y + 19, f"frame {place}: {frame.name()}"))
-        parts.append(text_at(x + 8, y + 32, f"{frame.sender} to {frame.receiver}, {'arrived' if arrived else 'not yet, or never'}"))
+        parts.append(text_at(x + 8, y + 32, f"{frame.sender} to {frame.receiver or 'all'}, {'arrived' if arrived else 'not yet, or never'}"))
     if not frames:
         parts.append(text_at(130, y + 25, "no frame since the mark"))
     return parts

@@ -2,9 +2,9 @@
 """Prints a random script for `tipc_sim run`.
 
 random_script.py SEED LINES: a script of so many lines behind the ones that make its nodes. The same
-seed gives the same script. Links of both bearers are asked for, cut, mended and left to fall silent, nodes are restarted,
-messages of any length are sent between all ports that were ever made, one or many at a time, and frames arrive
-late, again and in any order.
+seed gives the same script. The nodes find each other on bearer 0, and links of bearer 1 are asked for; bearers are cut and
+mended, links left to fall silent, nodes restarted, messages of any length are sent between all ports that were ever made, one or
+many at a time, and frames arrive late, again and in any order.
 """
 
 import random
@@ -24,9 +24,8 @@ class Cluster:
         self.sockets = {n: 0 for n in self.nodes}
 
     def first_lines(self) -> list:
-        lines = [f"node {n}" for n in self.nodes]
-        for bearer in (0, 1):
-            lines += [f"link {a} {b} {bearer}" for a in self.nodes for b in self.nodes if a < b and (bearer == 0 or self.draw.random() < 0.7)]
+        lines = [f"node {n}" for n in self.nodes] + [f"mend {n} 0" for n in self.nodes] + ["settle 4"]
+        lines += [f"link {a} {b} 1" for a in self.nodes for b in self.nodes if a < b and self.draw.random() < 0.7]
         for n in self.nodes:
             lines.append(self.socket(n))
         return lines

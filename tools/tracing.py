@@ -1,7 +1,8 @@
 #!/usr/bin/env python3
 """Traces a script of tipc_sim: which frames it sends, and which of them arrive, where and with what answer.
 
-tracing.py PROGRAM SCRIPT: a line for each frame that arrives, and one for each that never does.
+tracing.py PROGRAM SCRIPT: a line for each arrival of a frame, and one for each frame that never arrives. A frame to all arrives at each node
+but its sender.
 
 `pump`, `settle` and `burst` tell only how much happened. So each of them is taken apart here into the ticks, sends and
 arrivals of which it is made (docs/SCRIPTS.md), and each frame is asked for by `show`. The script that comes of it is run
@@ -35,8 +36,8 @@ class Line(NamedTuple):
 
 
 class Frame(NamedTuple):
-    """A frame that was sent: the bearer, its place in that bearer's air from 0, both nodes, its kind and number (0: none),
-    and the deed that sent it."""
+    """A frame that was sent: the bearer, its place in that bearer's air from 0, its sender, the node that it is for (0: all),
+    its kind and number (0: none), and the deed that sent it."""
 
     bearer: int
     place: int
@@ -49,8 +50,11 @@ class Frame(NamedTuple):
     def name(self) -> str:
         return f"{self.kind} {self.number}" if self.number else self.kind
 
+    def is_for(self, node: int) -> bool:
+        return node != self.sender if self.receiver == 0 else node == self.receiver
+
     def way(self) -> str:
-        return f"{self.sender} to {self.receiver} on {self.bearer}, {self.name()}"
+        return f"{self.sender} to {self.receiver or 'all'} on {self.bearer}, {self.name()}"
 
 
 class Deed(NamedTuple):
@@ -64,10 +68,11 @@ class Deed(NamedTuple):
 
 
 class Arrival(NamedTuple):
-    """A frame arrives: the line, the deed, and the answer, or nothing where the line doesn't tell it."""
+    """A frame arrives at a node: the line, the deed, and the answer, or nothing where the line doesn't tell it."""
 
     line: int
     deed: int
+    node: int
     frame: Frame
     answer: str
 
@@ -134,16 +139,21 @@ class Tracer:
     def last_answer(self) -> str:
         return run(self.program, [deed.text for deed in self.deeds])[-1]
 
+    def receivers(self, sender: str, receiver: str) -> list:
+        """The nodes that a frame is for, in order, as `show` names its sender and whom it is for."""
+        return [node for node in sorted(self.nodes) if node != int(sender)] if receiver == "all" else [int(receiver)]
+
     def arrive(self, line: int, bearer: int, first: int, end: int):
-        """The frames of these places arrive, in order."""
-        self.arrivals += max(end - first, 0)
-        if self.arrivals > MOST_ARRIVALS:
-            raise CannotTrace(f"more than {MOST_ARRIVALS} frames arrive")
+        """The frames of these places arrive, in order, each at every node that it is for."""
         places = range(first, end)
         shown = self.ask([f"show {bearer} {place - self.marks[bearer]}" for place in places])
         for place, answer in zip(places, shown):
-            text = f"arrive {answer.split()[1]} {bearer} {place - self.marks[bearer]}"
-            self.deeds.append(Deed(line, text, bearer, place))
+            for node in self.receivers(*answer.split()[:2]):
+                text = f"arrive {node} {bearer} {place - self.marks[bearer]}"
+                self.deeds.append(Deed(line, text, bearer, place))
+                self.arrivals += 1
+        if self.arrivals > MOST_ARRIVALS:
+            raise CannotTrace(f"more than {MOST_ARRIVALS} frames arrive")
 
     def pump(self, line: int, bearer: int):
         """The frames from the pump's place on arrive, and those that are sent meanwhile."""
@@ -228,16 +238,17 @@ def frames_of(program: str, deeds: list) -> list:
     answers, frames = run(program, asked), []
     for asked_at, bearer, place, number in wanted:
         sender, receiver, text = answers[asked_at].split()
-        frames.append(Frame(bearer, place, int(sender), int(receiver), *kind_of(bytes.fromhex(text)), number))
+        to = 0 if receiver == "all" else int(receiver)
+        frames.append(Frame(bearer, place, int(sender), to, *kind_of(bytes.fromhex(text)), number))
     return frames
 
 
 def linked(deed: Deed, number: int, frames: list) -> list:
-    """The arrivals of a line `link`: what was sent in it on its bearer for one of its two nodes."""
+    """The arrivals of a line `link`: what was sent in it on its bearer, at the one of its two nodes that it is for."""
     words = deed.text.split(" ")
-    ends, bearer = {int(words[1]), int(words[2])}, int(words[3])
-    sent = [frame for frame in frames if frame.deed == number and frame.bearer == bearer and frame.receiver in ends]
-    return [Arrival(deed.line, number, frame, "") for frame in sent]
+    ends, bearer = sorted({int(words[1]), int(words[2])}), int(words[3])
+    sent = [frame for frame in frames if frame.deed == number and frame.bearer == bearer]
+    return [Arrival(deed.line, number, node, frame, "") for frame in sent for node in ends if frame.is_for(node)]
 
 
 def arrivals_of(deeds: list, answers: list, frames: list) -> list:
@@ -248,7 +259,8 @@ def arrivals_of(deeds: list, answers: list, frames: list) -> list:
         if deed.text.startswith("link "):
             arrivals += linked(deed, number, frames)
         elif deed.place >= 0 and answer != "no-frame":
-            arrivals.append(Arrival(deed.line, number, by_place[deed.bearer, deed.place], answer))
+            node = int(deed.text.split(" ")[1])
+            arrivals.append(Arrival(deed.line, number, node, by_place[deed.bearer, deed.place], answer))
     return arrivals
 
 
@@ -293,7 +305,8 @@ def main(words: list) -> int:
         return 2
     for arrival in told.arrivals:
         frame = arrival.frame
-        print(f"{arrival.line}: {frame.way()}: {arrival.answer or 'arrives'}")
+        where = "" if frame.receiver else f" at {arrival.node}"
+        print(f"{arrival.line}: {frame.way()}{where}: {arrival.answer or 'arrives'}")
     for frame in told.lost():
         print(f"{told.deeds[frame.deed].line}: {frame.way()}: never arrives")
     return 0
