@@ -62,13 +62,13 @@ pub performs_kept : (n n' : NodeState) (by : By) (call : EventNote) (frames : Li
     → length n'.neighbours ≡ 33 → CallTurn n n' by call [] (kept_answer answered) frames
 performs_kept n n' by call frames answered k can ranges performs sound wide =
     let t = performs_turn n n' by call frames answered k.named (boot_low n k.told k.named) can performs in
-    let told = performs_told n n' by call frames answered k.told k.packed can performs t.0 t.1 sound in
+    let told = performs_told n n' by call frames answered k.told k.packed performs t.0 t.1 sound in
     record {
       inside = t.0;
       turn = t.1;
       told_before = k.told;
       told = told;
-      shared = performs_shares n n' by call frames answered k.told k.shares can performs t.0 t.1 told ranges wide;
+      shared = performs_shares n n' by call frames answered k.told k.shares performs t.0 t.1 told ranges wide;
       found = performs_found n n' by call frames answered k.named k.found can performs t.0 (kept_answer answered) t.1;
     }
 

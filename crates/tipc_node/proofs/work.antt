@@ -14,6 +14,7 @@ pub mod Homing
 pub mod Loads
 pub mod Making
 pub mod Neighbouring
+pub mod Planned
 pub mod Posted
 pub mod Reaching
 pub mod Refusals

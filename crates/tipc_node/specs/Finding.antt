@@ -123,10 +123,6 @@ welcome_frames own boot other peer bearer xs = []
 abbrev pub next_tick : ℕ → ℕ
 next_tick ticks = (ticks + 1) % 8
 
--- the node when a tick is counted
-abbrev pub with_tick : NodeState → NodeState
-with_tick n = record n { ticks = next_tick n.ticks }
-
 -- whether a link to one of these neighbours is up on a bearer
 abbrev pub has_link_up : ℕ → List (Option Neighbour) → Bool
 has_link_up bearer xs = list_any (λ x. is_up_at (end_with bearer x)) xs

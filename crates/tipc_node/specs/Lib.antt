@@ -6,6 +6,7 @@ pub mod Hearings
 pub mod Messages
 pub mod Neighbours
 pub mod Nodes
+pub mod Plans
 pub mod Sharing
 pub mod Sockets
 pub mod Sure

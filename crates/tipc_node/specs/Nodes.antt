@@ -74,10 +74,6 @@ end_with bearer (Some x) = (facing bearer x.pair).near
 abbrev pub with_neighbours : NodeState → List (Option Neighbour) → NodeState
 with_neighbours n xs = record n { neighbours = xs }
 
--- the node where these bearers are mended
-abbrev pub with_mended : NodeState → Bool × Bool → NodeState
-with_mended n mended = record n { mended = mended }
-
 -- ---- the journal
 
 -- a call is recorded: who made it, the call itself, what happened in it, and its answer

@@ -6,10 +6,11 @@ ghost use Rattle.tipc_outside.specs.Frames.{Adds};
 ghost use Rattle.tipc_outside.specs.declared.outgoing.Outgoing.{Outgoing};
 ghost use Rattle.tipc_journal.specs.Counting.{is_sent_by_name};
 ghost use Rattle.tipc_sockets.specs.SocketTables.{AreSockets, no_sockets};
-ghost use Rattle.tipc_node.specs.Calls.{CanPerform, IsPickedFrom, Performs, TakesPart, Ticks};
+ghost use Rattle.tipc_node.specs.Calls.{CanPerform, IsPickedFrom, Performs, tick_plan, upkeep_plan};
 ghost use Rattle.tipc_node.specs.Finding.{nobody_heard};
 ghost use Rattle.tipc_node.specs.Neighbours.{IsOnBearer};
-ghost use Rattle.tipc_node.specs.Nodes.{is_mended_on, node_load, neighbour_of, recorded};
+ghost use Rattle.tipc_node.specs.Nodes.{is_mended_on, node_load, neighbour_of, recorded, upkeep_note};
+ghost use Rattle.tipc_node.specs.Plans.{CarriesOut};
 ghost use Rattle.tipc_journal.specs.Room.{has_journal_room};
 
 use crate::drafts::Draft;
@@ -273,8 +274,8 @@ impl Core {
     ) -> Result<Answer, NoMemory>
         requires upkeep { IsOnBearer upkeep }
         requires room { has_journal_room self.old.journal ≡ true }
-        ensures ok { IfOk result (λ a. (frames : List Outgoing) × TakesPart self.old by upkeep self.new frames a ×
-            Adds out.old out.new frames) }
+        ensures ok { IfOk result (λ a. (frames : List Outgoing) × CarriesOut self.old by (upkeep_note upkeep)
+            (upkeep_plan self.old upkeep) self.new frames a × Adds out.old out.new frames) }
         ensures err { OnErr result ((self.new ≡ self.old) × (out.new ≡ out.old)) }
     {
         let mut event = Parting::new(alloc);
@@ -300,8 +301,8 @@ impl Core {
     /// passes for the others.
     fn tick(&mut self, alloc: Global, by: By, out: &mut Outbox) -> Result<Answer, NoMemory>
         requires room { has_journal_room self.old.journal ≡ true }
-        ensures ok { IfOk result (λ a. (frames : List Outgoing) × Ticks self.old by self.new frames a ×
-            Adds out.old out.new frames) }
+        ensures ok { IfOk result (λ a. (frames : List Outgoing) × CarriesOut self.old by EventNote.Tick
+            (tick_plan self.old) self.new frames a × Adds out.old out.new frames) }
         ensures err { OnErr result ((self.new ≡ self.old) × (out.new ≡ out.old)) }
     {
         let due = self.draft.sockets().due(alloc)?;

@@ -10,11 +10,12 @@ ghost use Rattle.tipc_journal.specs.Refusals.{longest_body};
 ghost use Rattle.tipc_journal.specs.Room.{counted_bytes, entry_bytes, has_journal_room};
 ghost use Rattle.tipc_message.specs.Wire.{IsPayload};
 ghost use Rattle.tipc_sockets.specs.Telling.{origin_of};
-ghost use Rattle.tipc_node.specs.Calls.{SendsToPort, SendsByName, SendsTo, sender_refusal, way_refusal};
+ghost use Rattle.tipc_node.specs.Calls.{Performs, sender_refusal};
 ghost use Rattle.tipc_node.specs.Drafts.{own_of, with_sockets_in};
 ghost use Rattle.tipc_node.specs.Messages.{destination_of};
 ghost use Rattle.tipc_node.specs.Nodes.{is_met};
-ghost use Rattle.tipc_node.specs.Sockets.{found_at};
+ghost use Rattle.tipc_node.specs.Plans.{CarriesOut, message_plan, way_refusal};
+ghost use Rattle.tipc_node.specs.Sockets.{found_at, kept_answer};
 ghost use Rattle.tipc_node.specs.Works.{Work, begun, concluded, work_of, Puts, GivesFate};
 
 use crate::cores::Core;
@@ -177,9 +178,10 @@ impl Core {
         requires origin { (origin_of m).word ≡ self.old.own }
         requires payload { IsPayload m }
         requires small { counted_bytes m ≤ longest_body }
+        requires kept { kept_answer sent ≡ sent }
         ensures way { IfOk result (λ why. why ≡ way_refusal self.old (destination_of m) limit) }
         ensures sends { IfOk result (λ why. (frames : List Outgoing)
-            × SendsTo self.old self.new by note m limit sent frames (unwrap_or why sent)
+            × CarriesOut self.old by note (message_plan self.old None m limit sent) self.new frames (unwrap_or why sent)
             × Adds out.old out.new frames) }
         ensures err { OnErr result ((self.new ≡ self.old) × (out.new ≡ out.old)) }
     {
@@ -215,8 +217,9 @@ impl Core {
         out: &mut Outbox,
     ) -> Result<Answer, NoMemory>
         requires room { has_journal_room self.old.journal ≡ true }
-        ensures ok { IfOk result (λ a. (frames : List Outgoing)
-            × SendsToPort self.old self.new by port to importance body frames a × Adds out.old out.new frames) }
+        ensures ok { IfOk result (λ a. (frames : List Outgoing) ×
+            Performs self.old by (EventNote.SendPort port to importance body) self.new frames a ×
+            Adds out.old out.new frames) }
         ensures err { OnErr result ((self.new ≡ self.old) × (out.new ≡ out.old)) }
     {
         if let Some(why) = self.sender_refusal(port, &body) {
@@ -246,9 +249,9 @@ impl Core {
         out: &mut Outbox,
     ) -> Result<Answer, NoMemory>
         requires room { has_journal_room self.old.journal ≡ true }
-        ensures ok { IfOk result (λ a. (frames : List Outgoing)
-            × SendsByName self.old self.new by port kind instance importance body frames a
-            × Adds out.old out.new frames) }
+        ensures ok { IfOk result (λ a. (frames : List Outgoing) ×
+            Performs self.old by (EventNote.SendName port kind instance importance body) self.new frames a ×
+            Adds out.old out.new frames) }
         ensures picked { IfOk result (λ a. (turn : ℕ) → turn % 2 ^ 64 ≡ chooser.old.turn →
             IsPickedOf (P.gives chooser.old.pick) turn (found_at self.old kind instance) a) }
         ensures turns { IfOk result (λ a. chooser.new ≡ record {

@@ -8,8 +8,9 @@ ghost use Rattle.tipc_journal.specs.declared.entries.Entry.TheVariants.{Withdraw
 ghost use Rattle.tipc_journal.specs.Licensed.{next_answer};
 ghost use Rattle.tipc_sockets.specs.Publishing.{closed, own_publication, published, published_at, withdrawn};
 ghost use Rattle.tipc_sockets.specs.SocketTables.{has_port};
-ghost use Rattle.tipc_node.specs.Calls.{Performs, Tells};
+ghost use Rattle.tipc_node.specs.Calls.{Performs, plan_of};
 ghost use Rattle.tipc_node.specs.Drafts.{own_of, with_sockets_in};
+ghost use Rattle.tipc_node.specs.Plans.{CarriesOut, names_plan};
 ghost use Rattle.tipc_journal.specs.Room.{counted_bytes, entry_bytes, has_journal_room};
 ghost use Rattle.tipc_message.specs.Wire.{IsCarried};
 ghost use Rattle.tipc_node.specs.Sockets.{first_answer, kept_answer, publication_refusal, with_names_changed, CanChangeNames};
@@ -170,7 +171,8 @@ impl Core {
     /// Makes a socket, and answers its port: Full exactly where 256 are there, or 1,048,575 were made in this boot.
     pub(crate) fn socket(&mut self, alloc: Global, by: By) -> Result<Answer, NoMemory>
         requires room { has_journal_room self.old.journal ≡ true }
-        ensures ok { IfOk result (Performs self.old by EventNote.Socket self.new []) }
+        ensures ok { IfOk result (CarriesOut self.old by EventNote.Socket
+            (plan_of self.old EventNote.Socket None) self.new []) }
         ensures err { OnErr result (self.new ≡ self.old) }
     {
         self.journal.reserve(2)?;
@@ -211,9 +213,9 @@ impl Core {
         requires carried { All IsCarried told.now }
         requires few { (length told.now ≤ 1024) × (length inside.items ≤ 1024) }
         requires light { (sum_by counted_bytes told.now ≤ 20480) × (sum_by entry_bytes inside.items ≡ 0) }
-        ensures ok { IfOk result (λ a. (frames : List Outgoing) × Tells self.old self.new by note None
-            (work_of self.old.neighbours (with_names_changed self.old.sockets change) inside.items) told.now frames a ×
-            Adds out.old out.new frames) }
+        ensures ok { IfOk result (λ a. (frames : List Outgoing) × CarriesOut self.old by note (names_plan self.old None
+            (work_of self.old.neighbours (with_names_changed self.old.sockets change) inside.items) told.now)
+            self.new frames a × Adds out.old out.new frames) }
         ensures err { OnErr result ((self.new ≡ self.old) × (out.new ≡ out.old)) }
     {
         if let Some(why) = crowd_refusal(self.draft.neighbours(), told) {
@@ -361,7 +363,8 @@ impl Core {
     /// waits there.
     pub(crate) fn receive(&mut self, alloc: Global, by: By, port: u32) -> Result<Answer, NoMemory>
         requires room { has_journal_room self.old.journal ≡ true }
-        ensures ok { IfOk result (Performs self.old by (EventNote.Receive port) self.new []) }
+        ensures ok { IfOk result (CarriesOut self.old by (EventNote.Receive port)
+            (plan_of self.old (EventNote.Receive port) None) self.new []) }
         ensures err { OnErr result (self.new ≡ self.old) }
     {
         let note = EventNote::Receive { port };
@@ -384,7 +387,8 @@ impl Core {
         subscription: Subscription,
     ) -> Result<Answer, NoMemory>
         requires room { has_journal_room self.old.journal ≡ true }
-        ensures ok { IfOk result (Performs self.old by (EventNote.Subscribe subscription) self.new []) }
+        ensures ok { IfOk result (CarriesOut self.old by (EventNote.Subscribe subscription)
+            (plan_of self.old (EventNote.Subscribe subscription) None) self.new []) }
         ensures err { OnErr result (self.new ≡ self.old) }
     {
         let note = EventNote::Subscribe { subscription };
@@ -417,7 +421,8 @@ impl Core {
     /// Cancels a subscription: Unknown exactly where none of that number is there.
     pub(crate) fn cancel(&mut self, alloc: Global, by: By, number: u32) -> Result<Answer, NoMemory>
         requires room { has_journal_room self.old.journal ≡ true }
-        ensures ok { IfOk result (Performs self.old by (EventNote.Cancel number) self.new []) }
+        ensures ok { IfOk result (CarriesOut self.old by (EventNote.Cancel number)
+            (plan_of self.old (EventNote.Cancel number) None) self.new []) }
         ensures err { OnErr result (self.new ≡ self.old) }
     {
         let note = EventNote::Cancel { number };
@@ -439,7 +444,8 @@ impl Core {
         number: u32,
     ) -> Result<Answer, NoMemory>
         requires room { has_journal_room self.old.journal ≡ true }
-        ensures ok { IfOk result (Performs self.old by (EventNote.NextEvent number) self.new []) }
+        ensures ok { IfOk result (CarriesOut self.old by (EventNote.NextEvent number)
+            (plan_of self.old (EventNote.NextEvent number) None) self.new []) }
         ensures err { OnErr result (self.new ≡ self.old) }
     {
         let note = EventNote::NextEvent { number };

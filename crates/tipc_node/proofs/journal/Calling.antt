@@ -18,19 +18,18 @@ use Rattle.tipc_journal.specs.Dues.{NothingDue, first_due, sent_message}
 use Rattle.tipc_journal.specs.Licensed.{IsAnswered, IsDone, accepted_of, asked, event_given, received}
 use Rattle.tipc_journal.specs.Queues.{is_taking, queue, sockets_after}
 use Rattle.tipc_journal.specs.Refusals.{first_holding, is_among, made_by, refusal, refusals, sockets_made}
-use Rattle.tipc_journal.specs.Steps.{IsInside, step_entries}
+use Rattle.tipc_journal.specs.Steps.{IsInside}
 use Rattle.tipc_journal.proofs.CountLaws.{sockets_made_step}
 use Rattle.tipc_journal.proofs.DueLaws.{queue_inside_nil}
 use Rattle.tipc_sockets.specs.SocketTables.{AreSockets, SocketTable, has_port, queue_at, with_first_taken, with_queues, with_socket}
 use Rattle.tipc_sockets.specs.Telling.{is_tick}
 use Rattle.tipc_sockets.proofs.StepsTold.{told_made, told_taken}
-use Rattle.tipc_node.specs.Calls.{Makes}
 use Rattle.tipc_node.specs.Nodes.{NodeState, step_of}
+use Rattle.tipc_node.specs.Plans.{GoesItsWay, Plan, Dispatch, frames_alone, on_its_way, tables_plan, to_peers}
 use Rattle.tipc_node.specs.Sockets.{first_answer, kept_answer, next_port, waiting_at}
 use Rattle.tipc_node.specs.Telling.{IsFull, IsTold}
-use Rattle.tipc_node.specs.Turns.{NodeTurn}
-use Rattle.tipc_node.specs.Works.{Work, addr_of_word, begun}
-use Rattle.tipc_node.proofs.journal.Concluding.{IsCall, IsKeptBy, IsOther, call_told, others_kept, same_made}
+use Rattle.tipc_node.specs.Works.{TellsPeers, Work, addr_of_word, begun}
+use Rattle.tipc_node.proofs.journal.Concluding.{IsCall, IsKeptBy, IsOther, others_kept, same_made}
 use Rattle.tipc_node.proofs.journal.Noting.{IsWorked, begun_worked}
 use Rattle.tipc_node.proofs.journal.Refusing.{port_refused}
 
@@ -117,19 +116,38 @@ holding_refuses (r ∷ rs) reason all is = by r.0 is (λ later. holding_refuses 
     by true here others = (let same : r.1 ≡ reason = cc in subst IsRefusal same all.0)
     by false later others = others later
 
--- a call that is refused, or makes this of the node, is told
-pub makes_told : (n n' : NodeState) (by : By) (note : EventNote) (r : Option Answer) (w w0 : Work) (given answered : Answer) (inside : List Entry) (frames : List Outgoing) → IsTold n → is_tick note ≡ false
-    → NodeTurn n n' [] (step_of by note inside (kept_answer answered)) frames → AreSockets n'.sockets → r ≡ refusal (addr_of_word n.own) n.journal note → AreRefusals (refusals (addr_of_word n.own) n.journal note)
-    → ((reason : Answer) → IsFull note reason) → w.inside ≡ w0.inside
-    → (refusal (addr_of_word n.own) n.journal note ≡ None → AreSockets w.sockets → IsInside w0.inside → IsCall n by note (kept_answer given) w0 w.sockets) → Makes n by note r w given n' frames answered → IsTold n'
-makes_told n n' by note (Some reason) w w0 given answered inside frames h still t sound is refuse full same done makes =
+-- ---- a plan whose call is told
+
+-- what is to be known of a call that was recorded with this work, whose entries may tell of other sockets than those in it
+abbrev pub IsWell : NodeState → By → EventNote → Answer → Work → Type 0
+IsWell n by note given last = (w : Work) × (last.inside ≡ w.inside) × IsCall n by note given w last.sockets
+
+-- the same of whatever a plan's call is recorded with behind what it sends
+abbrev pub EndsWell : Dispatch → NodeState → By → EventNote → Plan → Type 0
+EndsWell (frames_alone given) n by note p = IsInside p.work.inside → IsWell n by note (kept_answer p.answered) p.work
+EndsWell (to_peers told) n by note p = (last : Work) (frames : List Outgoing) → TellsPeers n.own p.work told last frames → AreSockets last.sockets → IsInside last.inside → IsWell n by note (kept_answer p.answered) last
+EndsWell (on_its_way m) n by note p = (last : Work) (frames : List Outgoing) → GoesItsWay n.own p.work m last frames → IsInside last.inside → IsWell n by note (kept_answer p.answered) last
+
+-- What is to be known of a plan whose call is told: the journal tells why it is refused, and what it does where nothing speaks against it.
+pub record IsLawful (n : NodeState) (by : By) (note : EventNote) (p : Plan) : Type 0 where
+  pub refused : (reason : Answer) → p.refusal ≡ Some reason → IsCall n by note reason (begun n) n.sockets
+  pub done : p.refusal ≡ None → EndsWell p.dispatch n by note p
+
+-- a reason that the journal tells
+pub reason_told : (n : NodeState) (by : By) (note : EventNote) (reason : Answer) → IsTold n → is_tick note ≡ false → AreRefusals (refusals (addr_of_word n.own) n.journal note) → ((why : Answer) → IsFull note why)
+    → refusal (addr_of_word n.own) n.journal note ≡ Some reason → IsCall n by note reason (begun n) n.sockets
+reason_told n by note reason h still refuse full is =
     let own = addr_of_word n.own in
-    call_told n n' [] by note inside (kept_answer answered) reason frames (begun n) n.sockets h t (ap (λ (x : NodeState). x.journal) makes.0) (ap (λ (x : NodeState). x.sockets) makes.0) sound
-    (λ inner. refused_call n by note reason h still (holding_refuses (refusals own n.journal note) reason refuse (sym is)) (subst (IsAnswered own n.journal (step_of by note [] reason)) is (refl, refl)) (full reason))
-makes_told n n' by note None w w0 given answered inside frames h still t sound is refuse full same done makes =
-    call_told n n' [] by note inside (kept_answer answered) (kept_answer given) frames w0 w.sockets h t
-    (ap (λ (x : NodeState). x.journal) makes.0 ∙ ap (λ es. n.journal ++ step_entries (step_of by note es (kept_answer given))) same) (ap (λ (x : NodeState). x.sockets) makes.0) sound
-    (done (sym is) (subst AreSockets (ap (λ (x : NodeState). x.sockets) makes.0) sound))
+    refused_call n by note reason h still (holding_refuses (refusals own n.journal note) reason refuse is) (subst (IsAnswered own n.journal (step_of by note [] reason)) (sym is) (refl, refl)) (full reason)
+
+-- a plan on the node's own tables
+pub tables_lawful : {r : Option Answer} {w : Work} {given : Answer} (n : NodeState) (by : By) (note : EventNote) (w0 : Work) → IsTold n → is_tick note ≡ false → r ≡ refusal (addr_of_word n.own) n.journal note
+    → AreRefusals (refusals (addr_of_word n.own) n.journal note) → ((reason : Answer) → IsFull note reason) → w.inside ≡ w0.inside
+    → (refusal (addr_of_word n.own) n.journal note ≡ None → IsInside w0.inside → IsCall n by note (kept_answer given) w0 w.sockets) → IsLawful n by note (tables_plan n r w given)
+tables_lawful n by note w0 h still is refuse full same done = record {
+  refused = λ reason some. reason_told n by note reason h still refuse full (sym is ∙ some);
+  done = λ none inner. (w0, same, done (sym is ∙ none) (subst IsInside same inner));
+}
 
 -- a call that isn't refused is done
 pub done_answered : (own : Addr) (journal : List Entry) (by : By) (note : EventNote) (inside : List Entry) (given : Answer) → refusal own journal note ≡ None → IsDone own journal note given

@@ -2,10 +2,8 @@
 use Rattle.std.proofs.Common.{◌≡◌, ◌+◌, ◌==◌, ℕ, suc, Bool, true, false, List, [], ◌∷◌, ◌++◌, Option, Some, None, refl, sym, ap, ◌∙◌, subst, eqb-true, arith}
 use Rattle.std.specs.Prelude.{IfSome, option_and_then, option_map, slice_index_or}
 use Rattle.tipc_types.specs.Address.{node_word}
-use Rattle.tipc_types.specs.declared.node_calls.Answer.{Answer}
 use Rattle.tipc_types.specs.declared.node_calls.Answer.TheVariants as answer
 use Rattle.tipc_types.specs.declared.node_calls.By.{By}
-use Rattle.tipc_outside.specs.declared.outgoing.Outgoing.{Outgoing}
 use Rattle.tipc_journal.specs.declared.entries.Entry.{Entry}
 use Rattle.tipc_journal.specs.Contacts.{contact}
 use Rattle.tipc_journal.specs.Dues.{NothingDue}
@@ -14,21 +12,18 @@ use Rattle.tipc_pair.specs.declared.transitions.Transition.{Transition}
 use Rattle.tipc_pair.specs.declared.transitions.Transition.TheVariants.{ContactDown, ContactUp, LinkDown, LinkUp}
 use Rattle.tipc_pair.specs.Facing.{contact_between}
 use Rattle.tipc_pair.specs.PairTurns.{quietly}
-use Rattle.tipc_sockets.specs.SocketTables.{AreSockets}
 use Rattle.tipc_node.specs.declared.neighbours.Neighbour.{Neighbour}
 use Rattle.tipc_node.specs.declared.neighbours.Upkeep.{Upkeep}
 use Rattle.tipc_node.specs.declared.neighbours.Upkeep.TheVariants as upkeep
-use Rattle.tipc_node.specs.Calls.{TakesPart, upkeep_work}
+use Rattle.tipc_node.specs.Calls.{upkeep_work}
 use Rattle.tipc_node.specs.Neighbours.{course_of, done}
 use Rattle.tipc_pair.specs.Contacts.{begins}
-use Rattle.tipc_node.specs.Nodes.{NodeState, after_all, change_entries, upkeep_note, entries_all, entries_one, neighbour_of, step_of}
-use Rattle.tipc_node.specs.Sockets.{kept_answer}
+use Rattle.tipc_node.specs.Nodes.{NodeState, after_all, change_entries, upkeep_note, entries_all, entries_one, neighbour_of}
 use Rattle.tipc_node.specs.Telling.{IsTold}
 use Rattle.tipc_pair.specs.LinkReadings.{AreAbreast}
-use Rattle.tipc_node.specs.Turns.{NodeTurn}
 use Rattle.tipc_node.specs.Works.{addr_of_word, begun}
 use Rattle.tipc_node.proofs.journal.Calling.{done_answered}
-use Rattle.tipc_node.proofs.journal.Concluding.{IsCall, call_told, others_kept}
+use Rattle.tipc_node.proofs.journal.Concluding.{IsCall, others_kept}
 use Rattle.tipc_node.proofs.pairs.Calm.{upkeep_happens, opening_of, own_calm}
 use Rattle.tipc_pair.proofs.turns.Moves.{AreSo, Goes, abreast_apt}
 use Rattle.tipc_pair.proofs.turns.TurnMoves.{first_runs}
@@ -110,7 +105,7 @@ abbrev pub IsNoTick : Upkeep → Type 0
 IsNoTick upkeep.Tick = ⊥
 IsNoTick d = Unit {0}
 
-upkeep_call : (n : NodeState) (by : By) (d : Upkeep) → IsTold n → IsNoTick d → IsInside (upkeep_work d n).inside → IsCall n by (upkeep_note d) answer.Done (upkeep_work d n) (upkeep_work d n).sockets
+pub upkeep_call : (n : NodeState) (by : By) (d : Upkeep) → IsTold n → IsNoTick d → IsInside (upkeep_work d n).inside → IsCall n by (upkeep_note d) answer.Done (upkeep_work d n) (upkeep_work d n).sockets
 upkeep_call n by d h other inner = of d refl
   where
     worked : IsWorked n NothingDue NothingDue [] [] (upkeep_work d n)
@@ -130,9 +125,3 @@ upkeep_call n by d h other inner = of d refl
       full = tt;
     })
     of upkeep.Tick is = absurd (subst IsNoTick is other)
-
-pub upkeep_told : (n n' : NodeState) (by : By) (d : Upkeep) (inside : List Entry) (frames : List Outgoing) (answered : Answer) → IsTold n → IsNoTick d → NodeTurn n n' [] (step_of by (upkeep_note d) inside (kept_answer answered)) frames
-    → AreSockets n'.sockets → TakesPart n by d n' frames answered → IsTold n'
-upkeep_told n n' by d inside frames answered h other t sound takes =
-    call_told n n' [] by (upkeep_note d) inside (kept_answer answered) answer.Done frames (upkeep_work d n) (upkeep_work d n).sockets h t (ap (λ (x : NodeState). x.journal) takes.0) (ap (λ (x : NodeState). x.sockets) takes.0) sound
-    (upkeep_call n by d h other)

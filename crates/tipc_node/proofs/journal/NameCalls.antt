@@ -1,5 +1,5 @@
 -- Messages by name: the journal tells of the node after each, and which match it went to.
-use Rattle.std.proofs.Common.{◌≡◌, ◌&&◌, ◌||◌, ℕ, Bool, true, false, not, List, [], ◌∷◌, ◌++◌, Option, Some, None, Contains, filter, inl, refl, sym, ap, ◌∙◌, subst, true≢false}
+use Rattle.std.proofs.Common.{◌≡◌, ◌&&◌, ◌||◌, ℕ, Bool, true, false, not, List, [], ◌∷◌, Option, Some, None, Contains, filter, inl, refl, sym, ap, ◌∙◌, subst, true≢false}
 use Rattle.std.specs.Prelude.{if◌then◌else◌, slice_get}
 use Rattle.std.specs.List.{list_all, list_any}
 use Rattle.std.proofs.lemmas.Bool.{and_from, and_parts}
@@ -15,30 +15,29 @@ use Rattle.tipc_types.specs.declared.node_calls.EventNote.{EventNote}
 use Rattle.tipc_types.specs.declared.node_calls.EventNote.TheVariants as event
 use Rattle.tipc_types.specs.declared.services.Publication.{Publication}
 use Rattle.tipc_outside.specs.declared.outgoing.Outgoing.{Outgoing}
-use Rattle.tipc_journal.specs.declared.entries.Entry.{Entry}
 use Rattle.tipc_journal.specs.Dues.{NothingDue}
 use Rattle.tipc_journal.specs.Licensed.{IsAnswered, is_reached}
 use Rattle.tipc_journal.specs.Matches.{matches}
 use Rattle.tipc_journal.specs.Names.{table}
 use Rattle.tipc_journal.specs.Refusals.{is_nothing, refusal}
-use Rattle.tipc_journal.specs.Steps.{step_entries}
+use Rattle.tipc_journal.specs.Steps.{IsInside}
 use Rattle.tipc_types.specs.Matching.{covers, preferred}
 use Rattle.tipc_types.specs.Tables.{is_of}
-use Rattle.tipc_sockets.specs.SocketTables.{AreSockets, has_port}
+use Rattle.tipc_sockets.specs.SocketTables.{has_port}
 use Rattle.tipc_sockets.proofs.Closing.{or_parts}
 use Rattle.tipc_sockets.proofs.Counting.{counts_none, none_counts}
-use Rattle.tipc_node.specs.Calls.{SendsByName, SendsTo, sender_refusal, way_refusal}
+use Rattle.tipc_node.specs.Calls.{IsChoice, name_plan, sender_refusal}
 use Rattle.tipc_node.specs.Messages.{limit_of, named}
 use Rattle.tipc_node.specs.Nodes.{NodeState, step_of}
-use Rattle.tipc_node.specs.Sockets.{found_at, kept_answer}
+use Rattle.tipc_node.specs.Plans.{GoesItsWay, or_else, way_refusal}
+use Rattle.tipc_node.specs.Sockets.{found_at}
 use Rattle.tipc_node.specs.Telling.{ArePacked, IsFull, IsTold, is_in_reach}
-use Rattle.tipc_node.specs.Turns.{NodeTurn}
-use Rattle.tipc_node.specs.Works.{addr_of_word}
-use Rattle.tipc_node.proofs.journal.Calling.{IsRefusal, done_answered}
-use Rattle.tipc_node.proofs.journal.Concluding.{call_told, others_kept}
+use Rattle.tipc_node.specs.Works.{Work, addr_of_word, begun}
+use Rattle.tipc_node.proofs.journal.Calling.{IsLawful, IsRefusal, IsWell, done_answered, refused_call}
+use Rattle.tipc_node.proofs.journal.Concluding.{IsCall, others_kept}
 use Rattle.tipc_node.proofs.journal.Noting.{all_kept}
-use Rattle.tipc_node.proofs.journal.PortCalls.{refused_told, sender_is, some_limit}
-use Rattle.tipc_node.proofs.journal.Refusing.{or_else, sender_refused, told_found}
+use Rattle.tipc_node.proofs.journal.PortCalls.{sender_is, some_limit}
+use Rattle.tipc_node.proofs.journal.Refusing.{none_first, none_other, sender_refused, told_found}
 use Rattle.tipc_node.proofs.journal.SendsTold.{WayRefused, crowded, goes_worked, unreached, way_refused}
 
 -- ---- what a name finds
@@ -120,21 +119,22 @@ name_first n port kind instance importance body h =
 found_reached : (n : NodeState) (kind instance k : ℕ) (p : Publication) → IsTold n → slice_get (found_at n kind instance) k ≡ Some p → is_reached (addr_of_word n.own) n.journal p.at.node ≡ true
 found_reached n kind instance k p h is = all_get (is_in_reach n.own n.journal) (found_at n kind instance) k p is (all_found (is_in_reach n.own n.journal) n kind instance h.sockets.reached)
 
-name_way : (n n' : NodeState) (by : By) (port kind instance : ℕ) (importance : Importance) (body : List ℕ) (p : Publication) (reason kept : Answer) (inside : List Entry) (frames : List Outgoing) → IsTold n
-    → NodeTurn n n' [] (step_of by (event.SendName port kind instance importance body) inside kept) frames → AreSockets n'.sockets
-    → n'.journal ≡ n.journal ++ step_entries (step_of by (event.SendName port kind instance importance body) [] reason) → n'.sockets ≡ n.sockets
-    → refusal (addr_of_word n.own) n.journal (event.SendName port kind instance importance body) ≡ None → is_reached (addr_of_word n.own) n.journal p.at.node ≡ true
-    → WayRefused n p.at.node (limit_of importance) reason → IsTold n'
-name_way n n' by port kind instance importance body p _ kept inside frames h t sound journal same none reached (unreached gone) = absurd (true≢false (sym reached ∙ gone))
-name_way n n' by port kind instance importance body p _ kept inside frames h t sound journal same none reached (crowded in_flight waiting fifty most there) =
+name_way : (n : NodeState) (by : By) (port kind instance : ℕ) (importance : Importance) (body : List ℕ) (p : Publication) (reason : Answer) → IsTold n → refusal (addr_of_word n.own) n.journal (event.SendName port kind instance importance body) ≡ None
+    → is_reached (addr_of_word n.own) n.journal p.at.node ≡ true → WayRefused n p.at.node (limit_of importance) reason → IsCall n by (event.SendName port kind instance importance body) reason (begun n) n.sockets
+name_way n by port kind instance importance body p _ h none reached (unreached gone) = absurd (true≢false (sym reached ∙ gone))
+name_way n by port kind instance importance body p _ h none reached (crowded in_flight waiting fifty most there) =
     let note = event.SendName port kind instance importance body in
     let reason = answer.Congested in_flight waiting in
-    refused_told n n' by note reason kept inside frames h refl t sound journal same tt (subst (IsAnswered (addr_of_word n.own) n.journal (step_of by note [] reason)) (sym none) (inl (refl, refl))) (fifty, most)
+    refused_call n by note reason h refl tt (subst (IsAnswered (addr_of_word n.own) n.journal (step_of by note [] reason)) (sym none) (inl (refl, refl))) (fifty, most)
 
-pub name_told : (n n' : NodeState) (by : By) (port kind instance : ℕ) (importance : Importance) (body : List ℕ) (answered : Answer) (inside : List Entry) (frames : List Outgoing) → IsTold n → ArePacked n
-    → NodeTurn n n' [] (step_of by (event.SendName port kind instance importance body) inside (kept_answer answered)) frames → AreSockets n'.sockets
-    → SendsByName n n' by port kind instance importance body frames answered → IsTold n'
-name_told n n' by port kind instance importance body answered inside frames h packed t sound sends = by_sender (sender_refusal n port body) refl
+-- a name that finds something
+some_found : (ps : List Publication) (k : ℕ) (p : Publication) → slice_get ps k ≡ Some p → (if is_nothing ps then Some answer.NoName else None) ≡ None
+some_found [] k p is = absurd cc
+some_found (q ∷ qs) k p is = refl
+
+pub name_lawful : (n : NodeState) (by : By) (port kind instance : ℕ) (importance : Importance) (body : List ℕ) (chosen : Option Publication) → IsTold n → ArePacked n → IsChoice (found_at n kind instance) chosen
+    → IsLawful n by (event.SendName port kind instance importance body) (name_plan n port kind instance importance body chosen)
+name_lawful n by port kind instance importance body chosen h packed choice = of chosen choice
   where
     own : Addr
     own = addr_of_word n.own
@@ -142,43 +142,59 @@ name_told n n' by port kind instance importance body answered inside frames h pa
     note : EventNote
     note = event.SendName port kind instance importance body
 
+    sender : Option Answer
+    sender = sender_refusal n port body
+
+    -- what refuses the sender
+    by_sender : (reason : Answer) → sender ≡ Some reason → IsCall n by note reason (begun n) n.sockets
+    by_sender reason is =
+        let told = name_first n port kind instance importance body h ∙ ap (λ o. or_else o (name_answer n kind instance)) is in
+        refused_call n by note reason h refl (sender_is IsRefusal n port body reason tt tt is) (subst (IsAnswered own n.journal (step_of by note [] reason)) (sym told) (refl, refl)) (sender_is (IsFull note) n port body reason tt tt is)
+
+    -- what refuses the name, where the sender isn't refused
+    by_name : (ps : List Publication) → sender ≡ None → found_at n kind instance ≡ ps → refusal own n.journal note ≡ (if is_nothing ps then Some answer.NoName else None)
+    by_name ps none is = name_first n port kind instance importance body h ∙ ap (λ o. or_else o (name_answer n kind instance)) none ∙ ap (λ (qs : List Publication). if is_nothing qs then Some answer.NoName else None) is
+
+    unnamed : found_at n kind instance ≡ [] → (reason : Answer) (o : Option Answer) → sender ≡ o → or_else o (Some answer.NoName) ≡ Some reason → IsCall n by note reason (begun n) n.sockets
+    unnamed empty reason None none some =
+        let here : answer.NoName ≡ reason = cc in
+        subst (λ why. IsCall n by note why (begun n) n.sockets) here (refused_call n by note answer.NoName h refl tt (subst (IsAnswered own n.journal (step_of by note [] answer.NoName)) (sym (by_name [] none empty)) (refl, refl)) tt)
+    unnamed empty reason (Some first) is same = by_sender reason (is ∙ same)
+
     -- it goes to this match
-    goes : (p : Publication) (k : ℕ) → slice_get (found_at n kind instance) k ≡ Some p → refusal own n.journal note ≡ None
-        → SendsTo n n' by note (named n.own port p.at kind instance importance body) (limit_of importance) (answer.SentTo p.at) frames answered → (o : Option Answer) → way_refusal n p.at.node (limit_of importance) ≡ o → IsTold n'
-    goes p k is none to None free =
-        let step = to.goes free in
-        let w = step.0 in
+    named_refusal : (p : Publication) (k : ℕ) → slice_get (found_at n kind instance) k ≡ Some p → sender ≡ None → refusal own n.journal note ≡ None
+    named_refusal p k is none = by_name (found_at n kind instance) none refl ∙ some_found (found_at n kind instance) k p is
+
+    refused : (p : Publication) (k : ℕ) → slice_get (found_at n kind instance) k ≡ Some p → (reason : Answer) (o : Option Answer) → sender ≡ o → or_else o (way_refusal n p.at.node (limit_of importance)) ≡ Some reason
+        → IsCall n by note reason (begun n) n.sockets
+    refused p k is reason None none some =
+        name_way n by port kind instance importance body p reason h (named_refusal p k is none) (found_reached n kind instance k p h is) (way_refused n p.at.node (limit_of importance) reason h packed (some_limit importance) some)
+    refused p k is reason (Some first) some same = by_sender reason (some ∙ same)
+
+    goes : (p : Publication) (k : ℕ) → slice_get (found_at n kind instance) k ≡ Some p → sender ≡ None → (last : Work) (frames : List Outgoing) → GoesItsWay n.own (begun n) (named n.own port p.at kind instance importance body) last frames
+        → IsInside last.inside → IsWell n by note (answer.SentTo p.at) last
+    goes p k is none last frames went inner =
         let m = named n.own port p.at kind instance importance body in
         let there = placed_there (is_of n.own p) (has_port n.sockets p.at.port)
         (all_get (λ q. not (is_of n.own q) || has_port n.sockets q.at.port) (found_at n kind instance) k p is (all_found (λ q. not (is_of n.own q) || has_port n.sockets q.at.port) n kind instance (own_placed n h))) in
-        let worked = goes_worked n m w frames h refl refl (λ home. there home) step.1 in
-        let found = subst (λ ps. Contains ps p) (told_found n kind instance h) (get_in (found_at n kind instance) k p is) in
-        call_told n n' [] by note inside (kept_answer answered) (answer.SentTo p.at) frames w w.sockets h t (ap (λ (x : NodeState). x.journal) step.2) (ap (λ (x : NodeState). x.sockets) step.2) sound (λ inner. record {
-          answered = done_answered own n.journal by note w.inside (answer.SentTo p.at) none (p, refl, found, found_reached n kind instance k p h is);
-          worked = worked;
-          kept = others_kept n by note (answer.SentTo p.at) NothingDue _ _ w h inner worked (record { stays = λ ports. refl; none = refl; quiet = λ q. refl; still = refl; nothing = λ number. refl });
-          full = tt;
-        })
-    goes p k is none to (Some reason) refused =
-        let step = to.refused reason refused in
-        name_way n n' by port kind instance importance body p reason (kept_answer answered) inside frames h t sound (ap (λ (x : NodeState). x.journal) step.0) (ap (λ (x : NodeState). x.sockets) step.0) none
-        (found_reached n kind instance k p h is) (way_refused n p.at.node (limit_of importance) reason h packed (some_limit importance) refused)
+        let worked = goes_worked n m last frames h refl refl (λ home. there home) went in
+        let found = subst (λ ps. Contains ps p) (told_found n kind instance h) (get_in (found_at n kind instance) k p is) in (
+          last,
+          refl,
+          record {
+            answered = done_answered own n.journal by note last.inside (answer.SentTo p.at) (named_refusal p k is none) (p, refl, found, found_reached n kind instance k p h is);
+            worked = worked;
+            kept = others_kept n by note (answer.SentTo p.at) NothingDue _ _ last h inner worked (record { stays = λ ports. refl; none = refl; quiet = λ q. refl; still = refl; nothing = λ number. refl });
+            full = tt;
+          },
+        )
 
-    by_found : (ps : List Publication) → sender_refusal n port body ≡ None → found_at n kind instance ≡ ps → IsTold n'
-    by_found [] sender is =
-        let step = sends.unnamed sender is in
-        let refused = name_first n port kind instance importance body h ∙ ap (λ o. or_else o (name_answer n kind instance)) sender ∙ ap (λ (ps : List Publication). if is_nothing ps then Some answer.NoName else None) is in
-        refused_told n n' by note answer.NoName (kept_answer answered) inside frames h refl t sound (ap (λ (x : NodeState). x.journal) step.0) (ap (λ (x : NodeState). x.sockets) step.0) tt
-        (subst (IsAnswered own n.journal (step_of by note [] answer.NoName)) (sym refused) (refl, refl)) tt
-    by_found (q ∷ qs) sender is =
-        let none = name_first n port kind instance importance body h ∙ ap (λ o. or_else o (name_answer n kind instance)) sender ∙ ap (λ (ps : List Publication). if is_nothing ps then Some answer.NoName else None) is in
-        let step = sends.sends sender (λ nil. let wrong : q ∷ qs ≡ [] = sym is ∙ nil in cc) in
-        goes step.0 step.1.place step.1.is none step.2 (way_refusal n step.0.at.node (limit_of importance)) refl
-
-    by_sender : (o : Option Answer) → sender_refusal n port body ≡ o → IsTold n'
-    by_sender None sender = by_found (found_at n kind instance) sender refl
-    by_sender (Some reason) is =
-        let step = sends.refused reason is in
-        let refused = name_first n port kind instance importance body h ∙ ap (λ o. or_else o (name_answer n kind instance)) is in
-        refused_told n n' by note reason (kept_answer answered) inside frames h refl t sound (ap (λ (x : NodeState). x.journal) step.0) (ap (λ (x : NodeState). x.sockets) step.0) (sender_is IsRefusal n port body reason tt tt is)
-        (subst (IsAnswered own n.journal (step_of by note [] reason)) (sym refused) (refl, refl)) (sender_is (IsFull note) n port body reason tt tt is)
+    of : (o : Option Publication) → IsChoice (found_at n kind instance) o → IsLawful n by note (name_plan n port kind instance importance body o)
+    of None empty = record {
+      refused = λ reason some. unnamed empty reason sender refl some;
+      done = λ none. absurd (let wrong : Some answer.NoName ≡ None = none_other sender (Some answer.NoName) none in cc);
+    }
+    of (Some p) found = record {
+      refused = λ reason some. refused p found.0 found.1 reason sender refl some;
+      done = λ none last frames went inner. goes p found.0 found.1 (none_first sender (way_refusal n p.at.node (limit_of importance)) none) last frames went inner;
+    }

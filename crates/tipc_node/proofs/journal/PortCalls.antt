@@ -1,5 +1,5 @@
 -- Messages to a port and by name: the journal tells of the node after each, whether it was refused or went its way.
-use Rattle.std.proofs.Common.{◌≡◌, ◌≤◌, ◌==◌, ◌&&◌, ◌||◌, ℕ, Bool, true, false, not, List, [], ◌∷◌, ◌++◌, Option, Some, None, is_some, length, inl, refl, sym, ap, ◌∙◌, subst, arith}
+use Rattle.std.proofs.Common.{◌≡◌, ◌≤◌, ◌==◌, ◌&&◌, ◌||◌, ℕ, Bool, true, false, not, List, [], ◌∷◌, Option, Some, None, is_some, length, inl, refl, sym, ap, ◌∙◌, subst, arith}
 use Rattle.std.specs.Prelude.{if◌then◌else◌, is_none, nat_le}
 use Rattle.tipc_types.specs.declared.identity.Addr.{Addr}
 use Rattle.tipc_types.specs.declared.identity.PortId.{PortId}
@@ -12,24 +12,21 @@ use Rattle.tipc_types.specs.declared.node_calls.By.{By}
 use Rattle.tipc_types.specs.declared.node_calls.EventNote.{EventNote}
 use Rattle.tipc_types.specs.declared.node_calls.EventNote.TheVariants as event
 use Rattle.tipc_outside.specs.declared.outgoing.Outgoing.{Outgoing}
-use Rattle.tipc_journal.specs.declared.entries.Entry.{Entry}
 use Rattle.tipc_journal.specs.Contacts.{contact}
 use Rattle.tipc_journal.specs.Dues.{NothingDue}
 use Rattle.tipc_journal.specs.Licensed.{IsAnswered, is_reached}
 use Rattle.tipc_journal.specs.Refusals.{refusal}
-use Rattle.tipc_journal.specs.Steps.{step_entries}
-use Rattle.tipc_sockets.specs.SocketTables.{AreSockets, has_port}
-use Rattle.tipc_node.specs.Calls.{SendsToPort, sender_refusal, way_refusal}
+use Rattle.tipc_journal.specs.Steps.{IsInside}
+use Rattle.tipc_sockets.specs.SocketTables.{has_port}
+use Rattle.tipc_node.specs.Calls.{sender_refusal}
 use Rattle.tipc_node.specs.Messages.{direct, limit_of}
 use Rattle.tipc_node.specs.Nodes.{NodeState, step_of}
-use Rattle.tipc_node.specs.Sockets.{kept_answer}
-use Rattle.tipc_sockets.specs.Telling.{is_tick}
+use Rattle.tipc_node.specs.Plans.{GoesItsWay, message_plan, or_else, way_refusal}
 use Rattle.tipc_node.specs.Telling.{ArePacked, IsFull, IsTold}
-use Rattle.tipc_node.specs.Turns.{NodeTurn}
-use Rattle.tipc_node.specs.Works.{addr_of_word, begun}
-use Rattle.tipc_node.proofs.journal.Calling.{IsRefusal, done_answered, refused_call}
-use Rattle.tipc_node.proofs.journal.Concluding.{call_told, others_kept}
-use Rattle.tipc_node.proofs.journal.Refusing.{or_else, sender_refused}
+use Rattle.tipc_node.specs.Works.{Work, addr_of_word, begun}
+use Rattle.tipc_node.proofs.journal.Calling.{IsLawful, IsRefusal, IsWell, done_answered, refused_call}
+use Rattle.tipc_node.proofs.journal.Concluding.{IsCall, others_kept}
+use Rattle.tipc_node.proofs.journal.Refusing.{none_first, none_other, sender_refused}
 use Rattle.tipc_node.proofs.journal.SendsTold.{WayRefused, crowded, goes_worked, unreached, way_open, way_refused}
 
 -- ---- a refused send
@@ -42,13 +39,6 @@ sender_is P n port body reason no_socket too_long is = by (has_port n.sockets po
     by true true none = absurd cc
     by true false long = (let here : answer.TooLong (length body) ≡ reason = cc in subst P here too_long)
     by false short gone = (let here : answer.NoSocket ≡ reason = cc in subst P here no_socket)
-
--- a step that a refused call recorded
-pub refused_told : (n n' : NodeState) (by : By) (note : EventNote) (reason kept : Answer) (inside : List Entry) (frames : List Outgoing) → IsTold n → is_tick note ≡ false → NodeTurn n n' [] (step_of by note inside kept) frames
-    → AreSockets n'.sockets → n'.journal ≡ n.journal ++ step_entries (step_of by note [] reason) → n'.sockets ≡ n.sockets → IsRefusal reason
-    → IsAnswered (addr_of_word n.own) n.journal (step_of by note [] reason) (refusal (addr_of_word n.own) n.journal note) → IsFull note reason → IsTold n'
-refused_told n n' by note reason kept inside frames h still t sound journal same refuses answered full =
-    call_told n n' [] by note inside kept reason frames (begun n) n.sockets h t journal same sound (λ inner. refused_call n by note reason h still refuses answered full)
 
 pub some_limit : (importance : Importance) → 1 ≤ limit_of importance
 some_limit Low = omega arith
@@ -79,23 +69,21 @@ port_refused_as : (n : NodeState) (port : ℕ) (to : PortId) (importance : Impor
 port_refused_as n port to importance body b h sender reached =
     port_first n port to importance body h ∙ ap (λ o. or_else o (link_answer n to.node)) sender ∙ reach_refusal (to.node.word == n.own) (contact n.journal to.node) b reached
 
-port_way : (n n' : NodeState) (by : By) (port : ℕ) (to : PortId) (importance : Importance) (body : List ℕ) (reason kept : Answer) (inside : List Entry) (frames : List Outgoing) → IsTold n
-    → NodeTurn n n' [] (step_of by (event.SendPort port to importance body) inside kept) frames → AreSockets n'.sockets
-    → n'.journal ≡ n.journal ++ step_entries (step_of by (event.SendPort port to importance body) [] reason) → n'.sockets ≡ n.sockets → sender_refusal n port body ≡ None
-    → WayRefused n to.node (limit_of importance) reason → IsTold n'
-port_way n n' by port to importance body _ kept inside frames h t sound journal same sender (unreached gone) =
+port_way : (n : NodeState) (by : By) (port : ℕ) (to : PortId) (importance : Importance) (body : List ℕ) (reason : Answer) → IsTold n → sender_refusal n port body ≡ None → WayRefused n to.node (limit_of importance) reason
+    → IsCall n by (event.SendPort port to importance body) reason (begun n) n.sockets
+port_way n by port to importance body _ h sender (unreached gone) =
     let note = event.SendPort port to importance body in
     let is = port_refused_as n port to importance body false h sender gone in
-    refused_told n n' by note answer.NoNode kept inside frames h refl t sound journal same tt (subst (IsAnswered (addr_of_word n.own) n.journal (step_of by note [] answer.NoNode)) (sym is) (refl, refl)) tt
-port_way n n' by port to importance body _ kept inside frames h t sound journal same sender (crowded in_flight waiting fifty most reached) =
+    refused_call n by note answer.NoNode h refl tt (subst (IsAnswered (addr_of_word n.own) n.journal (step_of by note [] answer.NoNode)) (sym is) (refl, refl)) tt
+port_way n by port to importance body _ h sender (crowded in_flight waiting fifty most reached) =
     let note = event.SendPort port to importance body in
     let reason = answer.Congested in_flight waiting in
     let is = port_refused_as n port to importance body true h sender reached in
-    refused_told n n' by note reason kept inside frames h refl t sound journal same tt (subst (IsAnswered (addr_of_word n.own) n.journal (step_of by note [] reason)) (sym is) (inl (refl, refl))) (fifty, most)
+    refused_call n by note reason h refl tt (subst (IsAnswered (addr_of_word n.own) n.journal (step_of by note [] reason)) (sym is) (inl (refl, refl))) (fifty, most)
 
-pub port_told : (n n' : NodeState) (by : By) (port : ℕ) (to : PortId) (importance : Importance) (body : List ℕ) (answered : Answer) (inside : List Entry) (frames : List Outgoing) → IsTold n → ArePacked n
-    → NodeTurn n n' [] (step_of by (event.SendPort port to importance body) inside (kept_answer answered)) frames → AreSockets n'.sockets → SendsToPort n n' by port to importance body frames answered → IsTold n'
-port_told n n' by port to importance body answered inside frames h packed t sound sends = by_sender (sender_refusal n port body) refl
+pub port_lawful : (n : NodeState) (by : By) (port : ℕ) (to : PortId) (importance : Importance) (body : List ℕ) → IsTold n → ArePacked n
+    → IsLawful n by (event.SendPort port to importance body) (message_plan n (sender_refusal n port body) (direct n.own port to importance body) (limit_of importance) answer.Sent)
+port_lawful n by port to importance body h packed = record { refused = λ reason some. refused reason (sender_refusal n port body) refl some; done = goes }
   where
     own : Addr
     own = addr_of_word n.own
@@ -106,30 +94,27 @@ port_told n n' by port to importance body answered inside frames h packed t soun
     m : Message
     m = direct n.own port to importance body
 
-    goes : sender_refusal n port body ≡ None → way_refusal n to.node (limit_of importance) ≡ None → IsTold n'
-    goes sender free =
-        let step = (sends.sends sender).goes free in
-        let w = step.0 in
-        let reached = way_open n to.node (limit_of importance) h free in
-        let worked = goes_worked n m w frames h refl refl (λ home. refl) step.1 in
-        call_told n n' [] by note inside (kept_answer answered) answer.Sent frames w w.sockets h t (ap (λ (x : NodeState). x.journal) step.2) (ap (λ (x : NodeState). x.sockets) step.2) sound (λ inner. record {
-          answered = done_answered own n.journal by note w.inside answer.Sent (port_refused_as n port to importance body true h sender reached) refl;
-          worked = worked;
-          kept = others_kept n by note answer.Sent NothingDue _ _ w h inner worked (record { stays = λ ports. refl; none = refl; quiet = λ q. refl; still = refl; nothing = λ number. refl });
-          full = tt;
-        })
+    way : Option Answer
+    way = way_refusal n to.node (limit_of importance)
 
-    by_way : (o : Option Answer) → sender_refusal n port body ≡ None → way_refusal n to.node (limit_of importance) ≡ o → IsTold n'
-    by_way None sender free = goes sender free
-    by_way (Some reason) sender is =
-        let step = (sends.sends sender).refused reason is in
-        port_way n n' by port to importance body reason (kept_answer answered) inside frames h t sound (ap (λ (x : NodeState). x.journal) step.0) (ap (λ (x : NodeState). x.sockets) step.0) sender
-        (way_refused n to.node (limit_of importance) reason h packed (some_limit importance) is)
+    refused : (reason : Answer) (o : Option Answer) → sender_refusal n port body ≡ o → or_else o way ≡ Some reason → IsCall n by note reason (begun n) n.sockets
+    refused reason None sender some = port_way n by port to importance body reason h sender (way_refused n to.node (limit_of importance) reason h packed (some_limit importance) some)
+    refused reason (Some first) is same =
+        let sender = is ∙ same in
+        let told = port_first n port to importance body h ∙ ap (λ o. or_else o (link_answer n to.node)) sender in
+        refused_call n by note reason h refl (sender_is IsRefusal n port body reason tt tt sender) (subst (IsAnswered own n.journal (step_of by note [] reason)) (sym told) (refl, refl)) (sender_is (IsFull note) n port body reason tt tt sender)
 
-    by_sender : (o : Option Answer) → sender_refusal n port body ≡ o → IsTold n'
-    by_sender None sender = by_way (way_refusal n to.node (limit_of importance)) sender refl
-    by_sender (Some reason) is =
-        let step = sends.refused reason is in
-        let refused = port_first n port to importance body h ∙ ap (λ o. or_else o (link_answer n to.node)) is in
-        refused_told n n' by note reason (kept_answer answered) inside frames h refl t sound (ap (λ (x : NodeState). x.journal) step.0) (ap (λ (x : NodeState). x.sockets) step.0) (sender_is IsRefusal n port body reason tt tt is)
-        (subst (IsAnswered own n.journal (step_of by note [] reason)) (sym refused) (refl, refl)) (sender_is (IsFull note) n port body reason tt tt is)
+    goes : or_else (sender_refusal n port body) way ≡ None → (last : Work) (frames : List Outgoing) → GoesItsWay n.own (begun n) m last frames → IsInside last.inside → IsWell n by note answer.Sent last
+    goes none last frames went inner =
+        let sender = none_first (sender_refusal n port body) way none in
+        let reached = way_open n to.node (limit_of importance) h (none_other (sender_refusal n port body) way none) in
+        let worked = goes_worked n m last frames h refl refl (λ home. refl) went in (
+          last,
+          refl,
+          record {
+            answered = done_answered own n.journal by note last.inside answer.Sent (port_refused_as n port to importance body true h sender reached) refl;
+            worked = worked;
+            kept = others_kept n by note answer.Sent NothingDue _ _ last h inner worked (record { stays = λ ports. refl; none = refl; quiet = λ q. refl; still = refl; nothing = λ number. refl });
+            full = tt;
+          },
+        )

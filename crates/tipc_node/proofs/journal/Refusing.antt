@@ -31,6 +31,7 @@ use Rattle.tipc_sockets.proofs.Keeping.{queue_there}
 use Rattle.tipc_sockets.proofs.Subscribers.{count_told, next_told, there_told}
 use Rattle.tipc_node.specs.Calls.{sender_refusal}
 use Rattle.tipc_node.specs.Nodes.{NodeState}
+use Rattle.tipc_node.specs.Plans.{or_else}
 use Rattle.tipc_node.specs.Sockets.{first_event, found_at, key_refusal, next_number, number_refusal, port_refusal, publication_refusal, refused_publication, socket_refusal, subscription_refusal, withdrawal_refusal}
 use Rattle.tipc_node.specs.Telling.{IsTold}
 use Rattle.tipc_node.specs.Works.{addr_of_word}
@@ -146,10 +147,14 @@ withdrawal_refused n port key h =
 
 -- ---- messages
 
--- the first refusal, or another
-abbrev pub or_else : Option Answer → Option Answer → Option Answer
-or_else None other = other
-or_else (Some reason) other = Some reason
+-- where neither reason is there, the first isn't, and the other isn't
+pub none_first : (first other : Option Answer) → or_else first other ≡ None → first ≡ None
+none_first None other is = refl
+none_first (Some reason) other is = absurd cc
+
+pub none_other : (first other : Option Answer) → or_else first other ≡ None → other ≡ None
+none_other None other is = is
+none_other (Some reason) other is = absurd cc
 
 longer : (a b : ℕ) → nat_lt a b ≡ not (nat_le b a)
 longer a b = grind (arith, nat_tests)

@@ -23,9 +23,9 @@ use Rattle.tipc_pair.specs.Facing.{PairEnds, active, contact_between, facing, tu
 use Rattle.tipc_pair.specs.PairCalls.{load_in, load_of as link_load}
 use Rattle.tipc_sockets.specs.Telling.{is_for_one_there, is_payload}
 use Rattle.tipc_node.specs.declared.neighbours.Neighbour.{Neighbour}
-use Rattle.tipc_node.specs.Calls.{GoesItsWay, link_refusal, way_refusal}
 use Rattle.tipc_node.specs.Messages.{destination_of}
 use Rattle.tipc_node.specs.Nodes.{NodeState, neighbour_of, load_with, shown_contact}
+use Rattle.tipc_node.specs.Plans.{GoesItsWay, link_refusal, way_refusal}
 use Rattle.tipc_node.specs.Telling.{ArePacked, IsTold}
 use Rattle.tipc_pair.specs.LinkReadings.{IsPacked, IsPackedEnd, IsPackedPair}
 use Rattle.tipc_node.specs.Works.{Work, addr_of_word, begun, neighbour_at}

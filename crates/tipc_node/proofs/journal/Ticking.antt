@@ -5,12 +5,10 @@ use Rattle.std.proofs.Common.{◌≡◌, ◌&&◌, ◌||◌, ℕ, Bool, true, fa
 use Rattle.std.proofs.Math.Seq.{take-append_seam}
 use Rattle.std.proofs.lemmas.Bool.{and_parts}
 use Rattle.std.proofs.lemmas.List.Folds.{list_any-append}
-use Rattle.tipc_types.specs.declared.node_calls.Answer.{Answer}
 use Rattle.tipc_types.specs.declared.node_calls.Answer.TheVariants as answer
 use Rattle.tipc_types.specs.declared.node_calls.By.{By}
 use Rattle.tipc_types.specs.declared.node_calls.EventNote.TheVariants as event
 use Rattle.tipc_types.specs.Watching.{in_order}
-use Rattle.tipc_outside.specs.declared.outgoing.Outgoing.{Outgoing}
 use Rattle.tipc_types.specs.Tables.{is_of}
 use Rattle.tipc_journal.specs.declared.entries.Entry.{Entry}
 use Rattle.tipc_journal.specs.declared.entries.Entry.TheVariants as entry
@@ -22,23 +20,23 @@ use Rattle.tipc_journal.specs.Subscriptions.{timeouts}
 use Rattle.tipc_topology.specs.Changing.{due, ended_at, passed}
 use Rattle.tipc_topology.specs.Watchers.{is_due, removed, Watcher}
 use Rattle.tipc_topology.proofs.Keeping.{all_removed_leave, none_due, Leaves}
-use Rattle.tipc_sockets.specs.SocketTables.{with_watchers, AreSockets, SocketTable}
+use Rattle.tipc_sockets.specs.SocketTables.{with_watchers, SocketTable}
 use Rattle.tipc_sockets.specs.Telling.{after_entry}
 use Rattle.tipc_sockets.proofs.StepsTold.{told_passed}
 use Rattle.tipc_sockets.proofs.Subscribers.{timeouts_told}
 use Rattle.tipc_node.specs.declared.neighbours.Upkeep.{Upkeep}
 use Rattle.tipc_node.specs.declared.neighbours.Upkeep.TheVariants as upkeep
-use Rattle.tipc_node.specs.Calls.{Ticks, upkeep_work, tick_work}
+use Rattle.tipc_node.specs.Calls.{tick_plan, tick_work, upkeep_plan, upkeep_work}
 use Rattle.tipc_node.specs.declared.neighbours.Neighbour.{Neighbour}
-use Rattle.tipc_node.specs.Finding.{next_tick, with_tick}
-use Rattle.tipc_node.specs.Nodes.{NodeState, after_all, upkeep_note, entries_all, is_change, mended_by, step_of, with_mended}
-use Rattle.tipc_node.specs.Sockets.{kept_answer, timeouts_of}
+use Rattle.tipc_node.specs.Finding.{next_tick}
+use Rattle.tipc_node.specs.Nodes.{NodeState, after_all, upkeep_note, entries_all, is_change, mended_by, step_of}
+use Rattle.tipc_node.specs.Plans.{concluded_by}
+use Rattle.tipc_node.specs.Sockets.{timeouts_of}
 use Rattle.tipc_node.specs.Telling.{IsTold}
-use Rattle.tipc_node.specs.Turns.{NodeTurn}
-use Rattle.tipc_node.specs.Works.{Work, addr_of_word, concluded, noted}
+use Rattle.tipc_node.specs.Works.{Work, addr_of_word, noted}
 use Rattle.tipc_node.proofs.journal.Calling.{done_answered}
 use Rattle.tipc_node.proofs.work.Changes.{all_changes}
-use Rattle.tipc_node.proofs.journal.Concluding.{IsCall, call_told, same_made}
+use Rattle.tipc_node.proofs.journal.Concluding.{IsCall, same_made}
 use Rattle.tipc_node.proofs.journal.Happening.{upkeep_worked}
 use Rattle.tipc_node.proofs.journal.Noting.{AreQuiet, IsQuiet, IsWorked, all_timed_out}
 
@@ -99,10 +97,10 @@ timeouts_unmade (number ∷ numbers) = timeouts_unmade numbers
 -- ---- the call
 
 -- the work before the tick passes for the subscriptions
-abbrev before_pass : NodeState → Work
+abbrev pub before_pass : NodeState → Work
 before_pass n = noted (upkeep_work upkeep.Tick n) (timeouts_of n.sockets)
 
-tick_call : (n : NodeState) (by : By) → IsTold n → IsInside (tick_work n).inside → IsCall n by event.Tick answer.Done (before_pass n) (tick_work n).sockets
+pub tick_call : (n : NodeState) (by : By) → IsTold n → IsInside (tick_work n).inside → IsCall n by event.Tick answer.Done (before_pass n) (tick_work n).sockets
 tick_call n by h inner =
     let own = addr_of_word n.own in
     let es = entries_all upkeep.Tick 0 n.neighbours in
@@ -135,12 +133,6 @@ tick_call n by h inner =
       full = tt;
     }
 
-pub tick_told : (n n' : NodeState) (by : By) (inside : List Entry) (frames : List Outgoing) (answered : Answer) → IsTold n → NodeTurn n n' [] (step_of by event.Tick inside (kept_answer answered)) frames
-    → AreSockets n'.sockets → Ticks n by n' frames answered → IsTold n'
-tick_told n n' by inside frames answered h t sound ticks =
-    call_told n n' [] by event.Tick inside (kept_answer answered) answer.Done frames (before_pass n) (tick_work n).sockets h t (ap (λ (x : NodeState). x.journal) ticks.0) (ap (λ (x : NodeState). x.sockets) ticks.0) sound
-    (tick_call n by h)
-
 -- ---- the node after it
 
 -- the parts of the node are those of the work on a tick
@@ -148,7 +140,7 @@ pub ticks_from : (n : NodeState) (by : By) (ticks : ℕ) (xs : List (Option Neig
     → mid ≡ fold after_entry n.sockets (entries_all upkeep.Tick 0 n.neighbours)
     → s ≡ with_watchers mid (passed (fold (λ t number. ended_at number t) mid.watchers (due mid.watchers.kept)))
     → journal ≡ n.journal ++ step_entries (step_of by event.Tick (entries_all upkeep.Tick 0 n.neighbours ++ timeouts_of n.sockets) answer.Done)
-    → record n { ticks = ticks; neighbours = xs; sockets = s; journal = journal } ≡ concluded (with_tick n) by event.Tick (tick_work n) answer.Done
+    → record n { ticks = ticks; neighbours = xs; sockets = s; journal = journal } ≡ concluded_by n by event.Tick (tick_plan n) (tick_work n)
 ticks_from n by ticks xs mid s journal counted neighbours between passes told =
     (λ i. record n { ticks = counted i; neighbours = neighbours i; sockets = sockets i; journal = told i })
   where
@@ -174,6 +166,6 @@ front_of told more all count is counted = (λ i. take (counted i) (is i)) ∙ ta
 pub takes_from : (n : NodeState) (by : By) (d : Upkeep) (mended : Bool × Bool) (xs : List (Option Neighbour)) (s : SocketTable) (journal : List Entry) → mended ≡ mended_by d n.mended → xs ≡ after_all d n.neighbours
     → s ≡ fold after_entry n.sockets (entries_all d 0 n.neighbours)
     → journal ≡ n.journal ++ step_entries (step_of by (upkeep_note d) (entries_all d 0 n.neighbours) answer.Done)
-    → record n { mended = mended; neighbours = xs; sockets = s; journal = journal } ≡ concluded (with_mended n (mended_by d n.mended)) by (upkeep_note d) (upkeep_work d n) answer.Done
+    → record n { mended = mended; neighbours = xs; sockets = s; journal = journal } ≡ concluded_by n by (upkeep_note d) (upkeep_plan n d) (upkeep_work d n)
 takes_from n by d mended xs s journal repaired neighbours sockets told =
     (λ i. record n { mended = repaired i; neighbours = neighbours i; sockets = sockets i; journal = told i })

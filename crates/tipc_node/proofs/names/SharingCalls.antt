@@ -3,16 +3,10 @@ use Rattle.std.proofs.Common.{◌≡◌, ◌+◌, ◌==◌, ◌||◌, ℕ, Bool,
 use Rattle.std.specs.List.{list_all}
 use Rattle.std.proofs.lemmas.Bool.{and_from, and_parts}
 use Rattle.tipc_types.specs.Address.{node_word}
-use Rattle.tipc_types.specs.declared.identity.PortId.{PortId}
-use Rattle.tipc_types.specs.declared.message_forms.Importance.{Importance}
-use Rattle.tipc_types.specs.declared.message_forms.Message.{Message}
 use Rattle.tipc_types.specs.declared.message_forms.Message.TheVariants.{Items, Payload}
 use Rattle.tipc_types.specs.declared.node_calls.Answer.{Answer}
-use Rattle.tipc_types.specs.declared.node_calls.Answer.TheVariants as answer
 use Rattle.tipc_types.specs.declared.node_calls.By.{By}
 use Rattle.tipc_types.specs.declared.node_calls.EventNote.{EventNote}
-use Rattle.tipc_types.specs.declared.node_calls.EventNote.TheVariants as event
-use Rattle.tipc_types.specs.declared.services.Publication.{Publication}
 use Rattle.tipc_outside.specs.declared.outgoing.Outgoing.{Outgoing}
 use Rattle.tipc_name_dist.specs.Agreeing.{AreOwn}
 use Rattle.tipc_name_dist.specs.Applying.{held_after}
@@ -28,26 +22,21 @@ use Rattle.tipc_sockets.specs.declared.fates.Fate.{Fate}
 use Rattle.tipc_sockets.specs.declared.fates.Fate.TheVariants.{Dropped, Queued, ReturnDropped, Returned}
 use Rattle.tipc_sockets.specs.Telling.{fate_entry, is_payload}
 use Rattle.tipc_node.specs.declared.neighbours.Upkeep.{Upkeep}
-use Rattle.tipc_node.specs.declared.neighbours.Upkeep.TheVariants as upkeep
 use Rattle.tipc_node.specs.declared.neighbours.Neighbour.{Neighbour}
-use Rattle.tipc_topology.specs.Changing.{due}
-use Rattle.tipc_node.specs.Calls.{Makes, SendsToPort, SendsByName, SendsTo, TakesPart, Ticks, sender_refusal, way_refusal}
-use Rattle.tipc_node.specs.Messages.{destination_of, direct, limit_of, named}
 use Rattle.tipc_node.specs.Neighbours.{done}
-use Rattle.tipc_node.specs.Nodes.{NodeState, change_entries, upkeep_note, entries_all, entries_one, step_of}
+use Rattle.tipc_node.specs.Nodes.{NodeState, change_entries, entries_all, entries_one, step_of}
 use Rattle.tipc_node.specs.Sharing.{SharesNames, flow_with}
 use Rattle.tipc_name_dist.specs.Told.{HasTold}
-use Rattle.tipc_node.specs.Sockets.{found_at, kept_answer, timeouts_of}
+use Rattle.tipc_node.specs.Sockets.{kept_answer}
 use Rattle.tipc_node.specs.Telling.{IsTold}
 use Rattle.tipc_node.specs.Turns.{NodeTurn, addr_of}
-use Rattle.tipc_node.specs.Works.{Work, begun}
 use Rattle.tipc_node.proofs.journal.Concluding.{same_turn}
 use Rattle.tipc_node.proofs.journal.Noting.{all_from}
 use Rattle.tipc_node.proofs.names.SharingEntries.{is_beside, is_end_of, is_plain_for, keeps_live, live_then, names_stay, plain_accepted, same_live}
 use Rattle.tipc_node.proofs.names.SharingFlows.{accepted_then, delivered_then}
 use Rattle.tipc_node.proofs.names.SharingSteps.{IsOwnCall, SharesAt, call_steady, other_than, shares_from}
 use Rattle.tipc_sockets.proofs.ToldNames.{told_users}
-use Rattle.tipc_node.proofs.names.SharingWork.{IsOpen, all_both, goes_adds}
+use Rattle.tipc_node.proofs.names.SharingWork.{IsOpen, all_both}
 
 -- ---- a call that changes no names
 
@@ -67,7 +56,7 @@ usual_fate (Returned (Items withdrawal items)) = refl
 usual_fate (ReturnDropped waiting) = refl
 usual_fate Dropped = refl
 
-usual_open : IsOpen is_usual
+pub usual_open : IsOpen is_usual
 usual_open = record { fates = usual_fate; users = λ peer numbers flow m user. user }
 
 usual_live : (e : Entry) → is_usual e ≡ true → keeps_live e ≡ true
@@ -148,57 +137,6 @@ pub record_shares : (n n' : NodeState) (by : By) (note : EventNote) (inside es :
 record_shares n n' by note inside es given frames answered h h' shares t own is usual =
     usual_shares n n' [] (step_of by note es given) frames h h' shares (same_turn n n' [] by note inside es (kept_answer answered) given frames t is) own usual
 
--- ---- refusals, and calls that send nothing
-
-abbrev JournalOf : NodeState → List Entry
-JournalOf n = n.journal
-
-pub makes_shares : (n n' : NodeState) (by : By) (note : EventNote) (reason : Option Answer) (w : Work) (given : Answer) (inside : List Entry) (frames : List Outgoing) (answered : Answer) → IsTold n → IsTold n' → SharesNames n
-    → IsTurnOf n n' by note inside frames answered → IsOwnCall note → list_all is_usual w.inside ≡ true → Makes n by note reason w given n' frames answered → SharesNames n'
-makes_shares n n' by note (Some why) w given inside frames answered h h' shares t own usual makes = record_shares n n' by note inside [] why frames answered h h' shares t own (ap JournalOf makes.0) refl
-makes_shares n n' by note None w given inside frames answered h h' shares t own usual makes = record_shares n n' by note inside w.inside (kept_answer given) frames answered h h' shares t own (ap JournalOf makes.0) usual
-
--- ---- messages
-
-sends_to_shares : (n n' : NodeState) (by : By) (note : EventNote) (m : Message) (limit : ℕ) (sent : Answer) (inside : List Entry) (frames : List Outgoing) (answered : Answer) → IsTold n → IsTold n' → SharesNames n
-    → IsTurnOf n n' by note inside frames answered → IsOwnCall note → is_payload m ≡ true → SendsTo n n' by note m limit sent frames answered → SharesNames n'
-sends_to_shares n n' by note m limit sent inside frames answered h h' shares t own user sends = case (way_refusal n (destination_of m) limit) refl
-  where
-    case : (o : Option Answer) → way_refusal n (destination_of m) limit ≡ o → SharesNames n'
-    case (Some why) is = record_shares n n' by note inside [] why frames answered h h' shares t own (ap JournalOf (sends.refused why is).0) refl
-    case None is =
-        let g = sends.goes is in
-        let a = goes_adds is_usual n.own (begun n) m g.0 frames usual_open user g.1 in
-        record_shares n n' by note inside g.0.inside sent frames answered h h' shares t own (ap JournalOf g.2) (subst (λ es. list_all is_usual es ≡ true) (sym a.inside) a.all)
-
-pub port_shares : (n n' : NodeState) (by : By) (port : ℕ) (to : PortId) (importance : Importance) (body : List ℕ) (inside : List Entry) (frames : List Outgoing) (answered : Answer) → IsTold n → IsTold n' → SharesNames n
-    → IsTurnOf n n' by (event.SendPort port to importance body) inside frames answered → SendsToPort n n' by port to importance body frames answered → SharesNames n'
-port_shares n n' by port to importance body inside frames answered h h' shares t sends = case (sender_refusal n port body) refl
-  where
-    note : EventNote
-    note = event.SendPort port to importance body
-
-    case : (o : Option Answer) → sender_refusal n port body ≡ o → SharesNames n'
-    case (Some why) is = record_shares n n' by note inside [] why frames answered h h' shares t tt (ap JournalOf (sends.refused why is).0) refl
-    case None is = sends_to_shares n n' by note (direct n.own port to importance body) (limit_of importance) answer.Sent inside frames answered h h' shares t tt refl (sends.sends is)
-
-pub name_shares : (n n' : NodeState) (by : By) (port kind instance : ℕ) (importance : Importance) (body : List ℕ) (inside : List Entry) (frames : List Outgoing) (answered : Answer) → IsTold n → IsTold n' → SharesNames n
-    → IsTurnOf n n' by (event.SendName port kind instance importance body) inside frames answered → SendsByName n n' by port kind instance importance body frames answered → SharesNames n'
-name_shares n n' by port kind instance importance body inside frames answered h h' shares t sends = case (sender_refusal n port body) refl
-  where
-    note : EventNote
-    note = event.SendName port kind instance importance body
-
-    found : (ps : List Publication) → sender_refusal n port body ≡ None → found_at n kind instance ≡ ps → SharesNames n'
-    found [] clear is = record_shares n n' by note inside [] answer.NoName frames answered h h' shares t tt (ap JournalOf (sends.unnamed clear is).0) refl
-    found (p ∷ ps) clear is =
-        let s = sends.sends clear (λ none. (let wrong : p ∷ ps ≡ [] = sym is ∙ none in cc)) in
-        sends_to_shares n n' by note (named n.own port s.0.at kind instance importance body) (limit_of importance) (answer.SentTo s.0.at) inside frames answered h h' shares t tt refl s.2
-
-    case : (o : Option Answer) → sender_refusal n port body ≡ o → SharesNames n'
-    case (Some why) is = record_shares n n' by note inside [] why frames answered h h' shares t tt (ap JournalOf (sends.refused why is).0) refl
-    case None is = found (found_at n kind instance) is refl
-
 -- ---- what happens to all neighbours
 
 changes_usual : (b : ℕ) (cs : List Transition) → list_all is_usual (change_entries b cs) ≡ true
@@ -212,31 +150,13 @@ one_usual : (d : Upkeep) (first : ℕ) (o : Option Neighbour) → list_all is_us
 one_usual d first None = refl
 one_usual d first (Some x) = changes_usual first (done d x).changes
 
-all_usual : (d : Upkeep) (first : ℕ) (xs : List (Option Neighbour)) → list_all is_usual (entries_all d first xs) ≡ true
+pub all_usual : (d : Upkeep) (first : ℕ) (xs : List (Option Neighbour)) → list_all is_usual (entries_all d first xs) ≡ true
 unfolding entries_all
 all_usual d first [] = refl
 all_usual d first (x ∷ xs) = all_both is_usual (entries_one d first x) (entries_all d (first + 1) xs) (one_usual d first x) (all_usual d (first + 1) xs)
 
-own_upkeep : (d : Upkeep) → IsOwnCall (upkeep_note d)
-own_upkeep (upkeep.Mend bearer) = tt
-own_upkeep (upkeep.Cut bearer) = tt
-own_upkeep upkeep.Tick = tt
-
-pub upkeep_shares : (n n' : NodeState) (by : By) (d : Upkeep) (inside : List Entry) (frames : List Outgoing) (answered : Answer) → IsTold n → IsTold n' → SharesNames n → IsTurnOf n n' by (upkeep_note d) inside frames answered
-    → TakesPart n by d n' frames answered → SharesNames n'
-upkeep_shares n n' by d inside frames answered h h' shares t takes =
-    record_shares n n' by (upkeep_note d) inside (entries_all d 0 n.neighbours) answer.Done frames answered h h' shares t (own_upkeep d) (ap JournalOf takes.0) (all_usual d 0 n.neighbours)
-
 -- ---- a tick
 
-timed_usual : (numbers : List ℕ) → list_all is_usual (map entry.TimedOut numbers) ≡ true
+pub timed_usual : (numbers : List ℕ) → list_all is_usual (map entry.TimedOut numbers) ≡ true
 timed_usual [] = refl
 timed_usual (number ∷ numbers) = timed_usual numbers
-
-pub tick_shares : (n n' : NodeState) (by : By) (inside : List Entry) (frames : List Outgoing) (answered : Answer) → IsTold n → IsTold n' → SharesNames n → IsTurnOf n n' by event.Tick inside frames answered
-    → Ticks n by n' frames answered → SharesNames n'
-tick_shares n n' by inside frames answered h h' shares t ticks =
-    let es = entries_all upkeep.Tick 0 n.neighbours in
-    let ts = timeouts_of n.sockets in
-    record_shares n n' by event.Tick inside (es ++ ts) answer.Done frames answered h h' shares t tt (ap JournalOf ticks.0)
-    (all_both is_usual es ts (all_usual upkeep.Tick 0 n.neighbours) (timed_usual (due n.sockets.watchers.kept)))

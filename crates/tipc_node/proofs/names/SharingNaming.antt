@@ -33,17 +33,16 @@ use Rattle.tipc_sockets.proofs.Counting.{count_by-one}
 use Rattle.tipc_sockets.proofs.Keeping.{not_refused}
 use Rattle.tipc_types.proofs.Places.{count_by-kept}
 use Rattle.tipc_node.specs.declared.neighbours.Neighbour.{Neighbour}
-use Rattle.tipc_node.specs.Calls.{Tells}
 use Rattle.tipc_node.specs.Nodes.{NodeState, is_met, neighbour_of, shown_contact, step_of}
 use Rattle.tipc_node.specs.Sharing.{SharesNames, flow_with}
 use Rattle.tipc_name_dist.specs.Told.{HasTold}
-use Rattle.tipc_node.specs.Sockets.{closed_work, crowd_refusal, key_refusal, kept_answer, publication_refusal, published_work, refused_publication, told_closing, told_withdrawal, withdrawal_refusal, withdrawn_entries, withdrawn_work}
+use Rattle.tipc_node.specs.Sockets.{closed_work, key_refusal, kept_answer, publication_refusal, published_work, refused_publication, told_closing, told_withdrawal, withdrawal_refusal, withdrawn_entries, withdrawn_work}
 use Rattle.tipc_node.specs.Telling.{IsTold}
 use Rattle.tipc_node.specs.Turns.{addr_of}
-use Rattle.tipc_node.specs.Works.{Work, peers_in_contact}
+use Rattle.tipc_node.specs.Works.{TellsPeers, Work, peers_in_contact}
 use Rattle.tipc_node.proofs.journal.Concluding.{same_turn}
 use Rattle.tipc_node.proofs.Places.{is_within}
-use Rattle.tipc_node.proofs.names.SharingCalls.{CallShares, IsTurnOf, call_shares, record_shares}
+use Rattle.tipc_node.proofs.names.SharingCalls.{CallShares, IsTurnOf, call_shares}
 use Rattle.tipc_node.proofs.names.SharingEntries.{is_beside, is_end_of, keeps_live, live_then, same_live, sockets_live}
 use Rattle.tipc_node.proofs.names.SharingFlows.{accepted_in}
 use Rattle.tipc_node.proofs.names.SharingPeers.{numbers_at, puts_pass, tells_accepts, told_entries, told_once}
@@ -127,39 +126,23 @@ naming_call n journal es told h within shares k is = record { own = subst (AreOw
         low zero x there = absurd (let wrong : None ≡ Some x = sym h.nobody ∙ there in cc)
         low (suc c) x there = omega arith
 
-pub tells_shares : (n n' : NodeState) (by : By) (note : EventNote) (reason : Option Answer) (w : Work) (told : List Message) (inside : List Entry) (frames : List Outgoing) (answered : Answer) → IsTold n → IsTold n' → SharesNames n
-    → IsTurnOf n n' by note inside frames answered → IsOwnCall note → length n'.neighbours ≡ 33 → w.neighbours ≡ n.neighbours → (reason ≡ None → IsNaming n.own (live n.journal) w.inside told)
-    → Tells n n' by note reason w told frames answered → SharesNames n'
-tells_shares n n' by note reason w told inside frames answered h h' shares t own wide same named tells = of_reason reason refl
+pub told_shares : (n n' : NodeState) (by : By) (note : EventNote) (w last : Work) (told : List Message) (given : Answer) (inside : List Entry) (frames : List Outgoing) (answered : Answer) → IsTold n → IsTold n' → SharesNames n
+    → IsTurnOf n n' by note inside frames answered → IsOwnCall note → length n'.neighbours ≡ 33 → w.neighbours ≡ n.neighbours → IsNaming n.own (live n.journal) w.inside told
+    → TellsPeers n.own w told last frames → n'.journal ≡ n.journal ++ step_entries (step_of by note last.inside given) → SharesNames n'
+told_shares n n' by note w last told given inside frames answered h h' shares t own wide same named tells recorded_is =
+    let accepts = tells_accepts n.own told w (peers_in_contact w.neighbours) last frames tells in
+    let es : last.inside ≡ w.inside ++ told_entries n.neighbours told (peers_in_contact n.neighbours) = accepts.inside ∙ ap (λ xs. w.inside ++ told_entries xs told (peers_in_contact xs)) same in
+    let s = step_of by note (w.inside ++ told_entries n.neighbours told (peers_in_contact n.neighbours)) given in
+    let journal : n'.journal ≡ n.journal ++ step_entries s = recorded_is ∙ ap (λ xs. n.journal ++ step_entries (step_of by note xs given)) es in
+    let turn = same_turn n n' [] by note inside s.inside (kept_answer answered) given frames t journal in
+    call_shares n n' [] s frames h h' shares turn own (naming_call n n'.journal w.inside told h within shares named (live_then n.journal n'.journal s journal))
   where
-    refused : (why : Answer) → n'.journal ≡ n.journal ++ step_entries (step_of by note [] why) → SharesNames n'
-    refused why is = record_shares n n' by note inside [] why frames answered h h' shares t own is refl
-
     within : (b : ℕ) (x : Neighbour) → neighbour_of n b ≡ Some x → b ≤ 32
     within b x there = case (neighbour_of n' b) refl (t.lasts b (ap is_some there))
       where
         case : (o : Option Neighbour) → neighbour_of n' b ≡ o → is_some (neighbour_of n' b) ≡ true → b ≤ 32
         case None none some = absurd (let wrong : false ≡ true = sym (ap is_some none) ∙ some in cc)
         case (Some y) is some = let inner = is_within n'.neighbours b y is in omega (arith, inner, wide)
-
-    told_all : reason ≡ None → crowd_refusal n.neighbours told ≡ None → SharesNames n'
-    told_all none free =
-        let g = tells.tells none free in
-        let last = g.0 in
-        let accepts = tells_accepts n.own told w (peers_in_contact w.neighbours) last frames g.1 in
-        let es : last.inside ≡ w.inside ++ told_entries n.neighbours told (peers_in_contact n.neighbours) = accepts.inside ∙ ap (λ xs. w.inside ++ told_entries xs told (peers_in_contact xs)) same in
-        let journal : n'.journal ≡ n.journal ++ step_entries (step_of by note (w.inside ++ told_entries n.neighbours told (peers_in_contact n.neighbours)) answer.Done) = ap (λ (x : NodeState). x.journal) g.2 ∙ ap (λ xs. n.journal ++ step_entries (step_of by note xs answer.Done)) es in
-        let s = step_of by note (w.inside ++ told_entries n.neighbours told (peers_in_contact n.neighbours)) answer.Done in
-        let turn = same_turn n n' [] by note inside s.inside (kept_answer answered) answer.Done frames t journal in
-        call_shares n n' [] s frames h h' shares turn own (naming_call n n'.journal w.inside told h within shares (named none) (live_then n.journal n'.journal s journal))
-
-    of_crowd : reason ≡ None → (o : Option Answer) → crowd_refusal n.neighbours told ≡ o → SharesNames n'
-    of_crowd none (Some why) crowded = refused why (ap (λ (x : NodeState). x.journal) (tells.crowded why none crowded).0)
-    of_crowd none None free = told_all none free
-
-    of_reason : (o : Option Answer) → reason ≡ o → SharesNames n'
-    of_reason (Some why) is = refused why (ap (λ (x : NodeState). x.journal) (tells.refused why is).0)
-    of_reason None none = of_crowd none (crowd_refusal n.neighbours told) refl
 
 -- ---- the calls
 

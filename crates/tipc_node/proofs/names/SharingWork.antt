@@ -13,7 +13,7 @@ use Rattle.tipc_journal.specs.Dues.{comes_home}
 use Rattle.tipc_sockets.specs.declared.fates.Fate.{Fate}
 use Rattle.tipc_sockets.specs.declared.fates.Fate.TheVariants.{Dropped, Queued, ReturnDropped, Returned}
 use Rattle.tipc_sockets.specs.Telling.{fate_entry, is_payload}
-use Rattle.tipc_node.specs.Calls.{GoesItsWay}
+use Rattle.tipc_node.specs.Plans.{GoesItsWay}
 use Rattle.tipc_node.specs.Works.{Follows, GoesBack, Puts, GivesFate, Work, addr_of_word, fate_of, fated}
 use Rattle.tipc_node.proofs.journal.Fating.{returned_is, fate_names}
 

@@ -12,10 +12,6 @@ use Rattle.tipc_types.specs.declared.node_calls.Arrival.{Arrival}
 use Rattle.tipc_types.specs.declared.node_calls.By.{By}
 use Rattle.tipc_types.specs.declared.node_calls.EventNote.{EventNote}
 use Rattle.tipc_types.specs.declared.node_calls.EventNote.TheVariants as event
-use Rattle.tipc_types.specs.declared.identity.PortId.{PortId}
-use Rattle.tipc_types.specs.declared.message_forms.Importance.{Importance}
-use Rattle.tipc_types.specs.declared.message_forms.Message.{Message}
-use Rattle.tipc_types.specs.declared.services.Publication.{Publication}
 use Rattle.tipc_outside.specs.declared.outgoing.Outgoing.{Outgoing}
 use Rattle.tipc_header.specs.declared.frames.FrameKind.TheVariants.{Finds, Links}
 use Rattle.tipc_header.specs.Frames.{kind_in}
@@ -27,13 +23,11 @@ use Rattle.tipc_pair.specs.PairTurns.{Opening, Suits}
 use Rattle.tipc_pair.specs.PairTurns.Opening.{makes}
 use Rattle.tipc_node.specs.declared.neighbours.Neighbour.{Neighbour}
 use Rattle.tipc_node.specs.Arrivals.{Arrives, Discovers, Hears}
-use Rattle.tipc_node.specs.Calls.{CanPerform, Makes, Performs, SendsByName, SendsTo, SendsToPort, Tells, sender_refusal, way_refusal}
+use Rattle.tipc_node.specs.Calls.{CanPerform, Performs, plan_of}
 use Rattle.tipc_node.specs.Finding.{AreFound, found_node, has_found, nobody_heard, with_found}
-use Rattle.tipc_node.specs.Messages.{destination_of}
 use Rattle.tipc_node.specs.Nodes.{NodeState, acquaintance, end_with, kept, neighbour_of, pair_with, step_of}
-use Rattle.tipc_node.specs.Sockets.{crowd_refusal, found_at}
+use Rattle.tipc_node.specs.Plans.{CarriesOut, Does, DoesUnless, Plan, Dispatch, frames_alone, on_its_way, to_peers}
 use Rattle.tipc_node.specs.Turns.{AreNamed, IsBrought, IsMaking, NodeTurn}
-use Rattle.tipc_node.specs.Works.{Work}
 use Rattle.tipc_node.proofs.pairs.EndsStay.{made_other, made_there, turn_ends_stay}
 use Rattle.tipc_node.proofs.pairs.Strangers.{alone_near}
 use Rattle.tipc_node.proofs.turns.Discovering.{new_there, others_there}
@@ -69,67 +63,24 @@ calls_none : (call : EventNote) (opening : Opening) → CanPerform call → Suit
 calls_none call (makes bearer is_mended) can suits making = subst CanPerform suits.1.1 can
 calls_none call other can suits making = making
 
-makes_same : (n n' : NodeState) (by : By) (call : EventNote) (reason : Option Answer) (w : Work) (given : Answer) (frames : List Outgoing) (answered : Answer) → Makes n by call reason w given n' frames answered → n'.found ≡ n.found
-makes_same n n' by call (Some reason) w given frames answered h = ap (λ (k : NodeState). k.found) h.0
-makes_same n n' by call None w given frames answered h = ap (λ (k : NodeState). k.found) h.0
-
-tells_same : (n n' : NodeState) (by : By) (call : EventNote) (reason : Option Answer) (w : Work) (told : List Message) (frames : List Outgoing) (answered : Answer) → Tells n n' by call reason w told frames answered → n'.found ≡ n.found
-tells_same n n' by call reason w told frames answered h = refusal reason refl
+-- nobody else was heard by it
+carried_same : (n n' : NodeState) (by : By) (call : EventNote) (p : Plan) (frames : List Outgoing) (answered : Answer) → CarriesOut n by call p n' frames answered → n'.found ≡ n.found
+carried_same n n' by call p frames answered carried = unless p.refusal carried
   where
-    crowd : (o : Option Answer) → reason ≡ None → crowd_refusal n.neighbours told ≡ o → n'.found ≡ n.found
-    crowd (Some why) none is = ap (λ (k : NodeState). k.found) (h.crowded why none is).0
-    crowd None none is = ap (λ (k : NodeState). k.found) (h.tells none is).2
+    does : (s : Dispatch) → Does s n by call p n' frames answered → n'.found ≡ n.found
+    does (frames_alone given) d = ap (λ (k : NodeState). k.found) d.0
+    does (to_peers told) d = ap (λ (k : NodeState). k.found) d.2
+    does (on_its_way m) d = ap (λ (k : NodeState). k.found) d.2
 
-    refusal : (o : Option Answer) → reason ≡ o → n'.found ≡ n.found
-    refusal (Some why) is = ap (λ (k : NodeState). k.found) (h.refused why is).0
-    refusal None is = crowd (crowd_refusal n.neighbours told) is refl
-
-sends_same : (n n' : NodeState) (by : By) (call : EventNote) (m : Message) (limit : ℕ) (given : Answer) (frames : List Outgoing) (answered : Answer) → SendsTo n n' by call m limit given frames answered → n'.found ≡ n.found
-sends_same n n' by call m limit given frames answered h = way (way_refusal n (destination_of m) limit) refl
-  where
-    way : (o : Option Answer) → way_refusal n (destination_of m) limit ≡ o → n'.found ≡ n.found
-    way (Some reason) is = ap (λ (k : NodeState). k.found) (h.refused reason is).0
-    way None is = ap (λ (k : NodeState). k.found) (h.goes is).2
-
-port_same : (n n' : NodeState) (by : By) (port : ℕ) (to : PortId) (importance : Importance) (body : List ℕ) (frames : List Outgoing) (answered : Answer) → SendsToPort n n' by port to importance body frames answered → n'.found ≡ n.found
-port_same n n' by port to importance body frames answered h = sender (sender_refusal n port body) refl
-  where
-    sender : (o : Option Answer) → sender_refusal n port body ≡ o → n'.found ≡ n.found
-    sender (Some reason) is = ap (λ (k : NodeState). k.found) (h.refused reason is).0
-    sender None is = sends_same n n' by _ _ _ _ frames answered (h.sends is)
-
-name_same : (n n' : NodeState) (by : By) (port kind instance : ℕ) (importance : Importance) (body : List ℕ) (frames : List Outgoing) (answered : Answer) → SendsByName n n' by port kind instance importance body frames answered → n'.found ≡ n.found
-name_same n n' by port kind instance importance body frames answered h = sender (sender_refusal n port body) refl
-  where
-    named : (ps : List Publication) → sender_refusal n port body ≡ None → found_at n kind instance ≡ ps → n'.found ≡ n.found
-    named [] clear is = ap (λ (k : NodeState). k.found) (h.unnamed clear is).0
-    named (p ∷ ps) clear is = sends_same n n' by _ _ _ _ frames answered (h.sends clear (λ none. (let wrong : p ∷ ps ≡ [] = sym is ∙ none in cc))).2
-
-    sender : (o : Option Answer) → sender_refusal n port body ≡ o → n'.found ≡ n.found
-    sender (Some reason) is = ap (λ (k : NodeState). k.found) (h.refused reason is).0
-    sender None is = named (found_at n kind instance) is refl
-
--- nobody else was heard by a call
-performs_same : (n n' : NodeState) (by : By) (call : EventNote) (frames : List Outgoing) (answered : Answer) → Performs n by call n' frames answered → n'.found ≡ n.found
-performs_same n n' by event.Socket frames answered h = makes_same n n' by _ _ _ _ frames answered h
-performs_same n n' by (event.Close port) frames answered h = tells_same n n' by _ _ _ _ frames answered h
-performs_same n n' by (event.Publish port range scope key) frames answered h = tells_same n n' by _ _ _ _ frames answered h
-performs_same n n' by (event.Withdraw port key) frames answered h = tells_same n n' by _ _ _ _ frames answered h
-performs_same n n' by (event.SendName port kind instance importance body) frames answered h = name_same n n' by port kind instance importance body frames answered h
-performs_same n n' by (event.SendPort port to importance body) frames answered h = port_same n n' by port to importance body frames answered h
-performs_same n n' by (event.Receive port) frames answered h = makes_same n n' by _ _ _ _ frames answered h
-performs_same n n' by (event.Subscribe asked) frames answered h = makes_same n n' by _ _ _ _ frames answered h
-performs_same n n' by (event.Cancel number) frames answered h = makes_same n n' by _ _ _ _ frames answered h
-performs_same n n' by (event.NextEvent number) frames answered h = makes_same n n' by _ _ _ _ frames answered h
-performs_same n n' by event.Tick frames answered h = ap (λ (k : NodeState). k.found) h.0
-performs_same n n' by (event.Cut bearer) frames answered h = ap (λ (k : NodeState). k.found) h.0
-performs_same n n' by (event.Mend bearer) frames answered h = ap (λ (k : NodeState). k.found) h.0
-performs_same n n' by other frames answered h = absurd h
+    unless : (o : Option Answer) → DoesUnless o n by call p n' frames answered → n'.found ≡ n.found
+    unless (Some reason) d = ap (λ (k : NodeState). k.found) d.0
+    unless None d = does p.dispatch d
 
 pub performs_found : (n n' : NodeState) (by : By) (call : EventNote) (frames : List Outgoing) (answered : Answer) → AreNamed n → AreFound n → CanPerform call → Performs n by call n' frames answered → (inside : List Entry) (kept : Answer)
     → NodeTurn n n' [] (step_of by call inside kept) frames → AreFound n'
 performs_found n n' by call frames answered named are can performs inside kept t =
-    turn_found n n' [] (step_of by call inside kept) frames named t (λ b making. calls_none call (t.turns b).opening can (t.turns b).suits making) (performs_same n n' by call frames answered performs) are
+    turn_found n n' [] (step_of by call inside kept) frames named t (λ b making. calls_none call (t.turns b).opening can (t.turns b).suits making)
+    (carried_same n n' by call (plan_of n call performs.chosen) frames answered performs.carried) are
 
 -- ---- an arrival
 

@@ -27,7 +27,7 @@ use Rattle.tipc_sockets.specs.declared.fates.Fate.TheVariants.{Dropped, Queued, 
 use Rattle.tipc_sockets.specs.Telling.{fate_entry}
 use Rattle.tipc_node.specs.declared.arriving.Delivery.{Delivery}
 use Rattle.tipc_node.specs.declared.neighbours.Neighbour.{Neighbour}
-use Rattle.tipc_node.specs.Calls.{GoesItsWay}
+use Rattle.tipc_node.specs.Plans.{GoesItsWay}
 use Rattle.tipc_node.specs.Messages.{IsSendable, bytes_of, message_in}
 use Rattle.tipc_node.specs.Nodes.{NodeState, accepted_entry, deliveries_of, delivered_by, entries_in, neighbour_of}
 use Rattle.tipc_node.specs.Turns.{IsOfNeighbour, IsPlaced, addr_of, is_accepted_for, is_change_of, is_delivered_from}
@@ -135,7 +135,7 @@ put_run n w w' peer m frames stand h = record {
 
 -- ---- a fate
 
-quiet_one : (n : NodeState) (e : Entry) → ((b : ℕ) → filter (is_change_of b) (e ∷ []) ≡ []) → ((b : ℕ) → filter (is_accepted_for b) (e ∷ []) ≡ []) → ((b : ℕ) → filter (is_delivered_from b) (e ∷ []) ≡ [])
+pub quiet_one : (n : NodeState) (e : Entry) → ((b : ℕ) → filter (is_change_of b) (e ∷ []) ≡ []) → ((b : ℕ) → filter (is_accepted_for b) (e ∷ []) ≡ []) → ((b : ℕ) → filter (is_delivered_from b) (e ∷ []) ≡ [])
     → is_inner e ≡ true → IsPlaced n e → AreQuiet n (e ∷ []) []
 quiet_one n e changes accepted delivered inner placed =
     record { changes = changes; accepted = accepted; delivered = delivered; inside = (rw inner refl); placed = All-cons (IsPlaced n) e [] placed (All-nil (IsPlaced n)) }

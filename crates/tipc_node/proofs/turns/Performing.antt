@@ -1,8 +1,7 @@
 -- Each call is a turn of the node.
-use Rattle.std.proofs.Common.{◌≡◌, ◌<◌, ◌^◌, ℕ, Bool, false, List, [], ◌∷◌, ◌++◌, append-nil, Option, Some, None, filter, map, slice_index_or, refl, sym, ap, ◌∙◌, subst}
-use Rattle.std.proofs.lemmas.List.Elements.{All-append, All-cons, All-nil, filter-append}
+use Rattle.std.proofs.Common.{◌≡◌, ◌<◌, ◌^◌, ℕ, Bool, List, [], ◌∷◌, ◌++◌, append-nil, Option, Some, None, filter, map, slice_index_or, refl, sym, ap, ◌∙◌}
+use Rattle.std.proofs.lemmas.List.Elements.{All-append, All-cons, filter-append}
 use Rattle.tipc_types.specs.Address.{node_word}
-use Rattle.tipc_types.specs.declared.identity.PortId.{PortId}
 use Rattle.tipc_types.specs.declared.message_forms.Importance.{Importance}
 use Rattle.tipc_types.specs.declared.message_forms.Message.{Message}
 use Rattle.tipc_types.specs.declared.node_calls.Answer.{Answer}
@@ -14,32 +13,30 @@ use Rattle.tipc_types.specs.declared.services.Publication.{Publication}
 use Rattle.tipc_outside.specs.declared.outgoing.Outgoing.{Outgoing}
 use Rattle.tipc_journal.specs.declared.entries.Entry.{Entry}
 use Rattle.tipc_journal.specs.declared.entries.Entry.TheVariants.{Published, Withdrawn, Subscribed, Cancelled, TimedOut}
-use Rattle.tipc_journal.specs.Licensed.{next_answer}
-use Rattle.tipc_journal.specs.Steps.{NodeStep}
+use Rattle.tipc_journal.specs.Steps.{NodeStep, step_entries}
 use Rattle.tipc_topology.specs.Changing.{due}
-use Rattle.tipc_name_dist.specs.Items.{telling}
 use Rattle.tipc_pair.specs.PairTurns.{ShowsIn, quietly, IsOnOne, Suits}
 use Rattle.tipc_sockets.specs.Publishing.{is_at, own_publication, published_at}
-use Rattle.tipc_sockets.specs.SocketTables.{with_socket}
 use Rattle.tipc_node.specs.declared.neighbours.Upkeep.{Upkeep}
 use Rattle.tipc_node.specs.declared.neighbours.Upkeep.TheVariants as upkeep
 use Rattle.tipc_node.specs.declared.neighbours.Neighbour.{Neighbour}
-use Rattle.tipc_node.specs.Calls.{CanPerform, Makes, Performs, SendsToPort, SendsByName, SendsTo, TakesPart, Tells, upkeep_work, sender_refusal, tick_work, way_refusal}
-use Rattle.tipc_node.specs.Finding.{upkeep_frames, with_tick}
-use Rattle.tipc_node.specs.Messages.{destination_of, direct, limit_of, named}
+use Rattle.tipc_node.specs.Calls.{CanPerform, Performs, name_plan, plan_of, sender_refusal, tick_plan, upkeep_plan}
+use Rattle.tipc_node.specs.Finding.{upkeep_frames}
+use Rattle.tipc_node.specs.Messages.{destination_of, limit_of}
 use Rattle.tipc_node.specs.Neighbours.{IsOnBearer, course_of, done}
-use Rattle.tipc_node.specs.Nodes.{NodeState, after_one, change_entries, upkeep_note, entries_all, entries_one, mended_by, numbered_one, recorded, states_one, step_of, with_mended}
-use Rattle.tipc_node.specs.Sockets.{cancelled_work, closed_work, crowd_refusal, first_answer, first_event, found_at, kept_answer, next_number, next_port, next_work, number_refusal, port_refusal, publication_refusal, published_work, received_work, socket_refusal, subscribed_work, subscription_refusal, timeouts_of, told_closing, told_withdrawal, waiting_at, with_sockets_of, withdrawal_refusal, withdrawn_entries, withdrawn_work}
+use Rattle.tipc_node.specs.Nodes.{NodeState, after_all, after_one, change_entries, upkeep_note, entries_all, entries_one, numbered_one, recorded, states_one, step_of}
+use Rattle.tipc_node.specs.Plans.{CarriesOut, Does, DoesUnless, Plan, Dispatch, concluded_by, frames_alone, message_plan, names_plan, on_its_way, tables_plan, to_peers, way_refusal}
+use Rattle.tipc_node.specs.Sockets.{crowd_refusal, first_event, kept_answer, next_number, port_refusal, publication_refusal, timeouts_of, waiting_at, withdrawal_refusal, withdrawn_entries}
 use Rattle.tipc_node.specs.Turns.{AreNamed, IsBrought, IsPlaced, NodeTurn, PeerTurn, frames_to, is_accepted_for, is_change_of, is_delivered_from}
 use Rattle.tipc_pair.specs.Addressed.{Names}
 use Rattle.tipc_node.specs.Works.{Work, begun, concluded, peers_in_contact}
 use Rattle.tipc_pair.proofs.turns.Addressing.{AreFor}
 use Rattle.tipc_node.proofs.pairs.Calm.{upkeep_happens, opening_of}
 use Rattle.tipc_node.proofs.turns.Entries.{all_accept, all_changes, all_deliver, all_inside, all_placed, all_routed, inside_both}
-use Rattle.tipc_node.proofs.turns.MessageRuns.{AreQuiet, goes_run, idle_run, none_quiet, quiet_run}
+use Rattle.tipc_node.proofs.turns.MessageRuns.{AreQuiet, goes_run, idle_run, none_quiet, quiet_one, quiet_run}
 use Rattle.tipc_node.proofs.turns.Named.{first_frames}
 use Rattle.tipc_node.proofs.journal.PeersTold.{tells_each_run}
-use Rattle.tipc_node.proofs.turns.Plain.{IsPlain, IsPlainIn, crowd_plain, next_untaken, number_plain, plain_reason, port_plain, publication_plain, received_untaken, sender_plain, socket_plain, subscription_plain, way_plain, withdrawal_plain}
+use Rattle.tipc_node.proofs.turns.Plain.{IsPlain, IsPlainIn, crowd_plain, next_untaken, number_plain, plain_either, port_plain, publication_plain, received_untaken, sender_plain, socket_plain, subscription_plain, way_plain, withdrawal_plain}
 use Rattle.tipc_node.proofs.turns.Runs.{IsRun, run_then}
 use Rattle.tipc_node.proofs.pairs.Strangers.{named_there}
 use Rattle.tipc_node.proofs.turns.Shares.{after_at, shares}
@@ -57,32 +54,45 @@ refused_turn n n' by call reason frames answered named plain after none is =
     turn_as n n' (recorded n by call [] reason) by call [] frames [] (kept_answer answered) reason after none (ap kept_answer is ∙ plain.kept)
     (run_turn n by call [] reason (begun n) [] plain.untaken (idle_run n (begun n) (begun n) (named_stand n named) refl refl))
 
-makes_turn : (n n' : NodeState) (by : By) (call : EventNote) (refusal : Option Answer) (w : Work) (given : Answer) (frames : List Outgoing) (answered : Answer) → AreNamed n → IsPlainIn refusal → IsUntaken (kept_answer given)
-    → IsRun n (begun n) [] [] w → Makes n by call refusal w given n' frames answered → IsCall n n' by call frames answered
-makes_turn n n' by call (Some reason) w given frames answered named plain untaken run h = refused_turn n n' by call reason frames answered named plain h.0 h.1 h.2
-makes_turn n n' by call None w given frames answered named plain untaken run h =
-    turn_as n n' (concluded n by call w (kept_answer given)) by call [] frames [] (kept_answer answered) (kept_answer given) h.0 h.1 (ap kept_answer h.2) (run_turn n by call [] (kept_answer given) w [] untaken run)
+-- ---- a plan that is carried out
 
--- a call that changes names, and tells peers of it
-tells_turn : (n n' : NodeState) (by : By) (call : EventNote) (refusal : Option Answer) (w : Work) (told : List Message) (frames : List Outgoing) (answered : Answer) → AreNamed n → IsPlainIn refusal → IsRun n (begun n) [] [] w
-    → Tells n n' by call refusal w told frames answered → IsCall n n' by call frames answered
-tells_turn n n' by call refusal w told frames answered named plain run h = case refusal refl
+-- the frames that leave with the work of a plan
+abbrev frames_with : Dispatch → List Outgoing
+frames_with (frames_alone given) = given
+frames_with other = []
+
+-- What makes a call a turn, by its plan: its answers are plain, it changes neither bearers nor ticks, and its work is a run.
+record IsRunning (n : NodeState) (p : Plan) : Type 0 where
+  pub plain : IsPlainIn p.refusal
+  pub untaken : IsUntaken (kept_answer p.answered)
+  pub stays : record n { mended = p.mended; ticks = p.ticks } ≡ n
+  pub run : IsRun n (begun n) [] (frames_with p.dispatch) p.work
+
+carried_turn : (n n' : NodeState) (by : By) (call : EventNote) (p : Plan) (frames : List Outgoing) (answered : Answer) → AreNamed n → IsRunning n p → CarriesOut n by call p n' frames answered → IsCall n n' by call frames answered
+carried_turn n n' by call p frames answered named fit carried = unless p.refusal fit.plain carried
   where
-    crowd : (o : Option Answer) → refusal ≡ None → crowd_refusal n.neighbours told ≡ o → IsCall n n' by call frames answered
-    crowd (Some reason) none is =
-        let r = h.crowded reason none is in
-        refused_turn n n' by call reason frames answered named (plain_reason (crowd_refusal n.neighbours told) reason (crowd_plain n.neighbours told) is) r.0 r.1 r.2
-    crowd None none is =
-        let t = h.tells none is in
-        let last = tells_each_run n told w (peers_in_contact w.neighbours) t.0 frames run.runs.stand t.1 in
-        turn_as n n' (concluded n by call t.0 answer.Done) by call [] frames frames (kept_answer answered) answer.Done t.2 refl (ap kept_answer t.3)
-        (run_turn n by call [] answer.Done t.0 frames tt (run_then n (begun n) w t.0 [] [] [] frames run last))
+    kept : Answer
+    kept = kept_answer p.answered
 
-    case : (o : Option Answer) → refusal ≡ o → IsCall n n' by call frames answered
-    case (Some reason) is =
-        let r = h.refused reason is in
-        refused_turn n n' by call reason frames answered named (plain_reason refusal reason plain is) r.0 r.1 r.2
-    case None is = crowd (crowd_refusal n.neighbours told) is refl
+    recorded_run : (last : Work) (given : List Outgoing) → IsRun n (begun n) [] given last → n' ≡ concluded_by n by call p last → frames ≡ given → answered ≡ p.answered → IsCall n n' by call frames answered
+    recorded_run last given run after leave is =
+        turn_as n n' (concluded n by call last kept) by call [] frames given (kept_answer answered) kept (after ∙ ap (λ (m : NodeState). concluded m by call last kept) fit.stays) leave (ap kept_answer is)
+        (run_turn n by call [] kept last given fit.untaken run)
+
+    -- what is sent is a run behind the work
+    behind : (last : Work) → IsRun n (begun n) [] [] p.work → IsRun n p.work [] frames last → IsRun n (begun n) [] frames last
+    behind last first later = run_then n (begun n) p.work last [] [] [] frames first later
+
+    does : (s : Dispatch) → IsRun n (begun n) [] (frames_with s) p.work → Does s n by call p n' frames answered → IsCall n n' by call frames answered
+    does (frames_alone given) run d = recorded_run p.work given run d.0 d.1 d.2
+    does (to_peers told) run d = recorded_run d.0 frames (behind d.0 run (tells_each_run n told p.work (peers_in_contact p.work.neighbours) d.0 frames run.runs.stand d.1)) d.2 refl d.3
+    does (on_its_way m) run d = recorded_run d.0 frames (behind d.0 run (goes_run n p.work d.0 m frames run.runs.stand d.1)) d.2 refl d.3
+
+    unless : (o : Option Answer) → IsPlainIn o → DoesUnless o n by call p n' frames answered → IsCall n n' by call frames answered
+    unless (Some reason) plain d = refused_turn n n' by call reason frames answered named plain d.0 d.1 d.2
+    unless None plain d = does p.dispatch fit.run d
+
+-- ---- the work of each call
 
 one_withdrawn : (n : NodeState) (p : Publication) (es : List Entry) → AreQuiet n es [] → AreQuiet n (Withdrawn p ∷ es) []
 one_withdrawn n p es quiet = record {
@@ -101,53 +111,32 @@ withdrawn_quiet : (n : NodeState) (o : Option Publication) → AreQuiet n (withd
 withdrawn_quiet n None = none_quiet n
 withdrawn_quiet n (Some p) = one_withdrawn n p [] (none_quiet n)
 
-published_quiet : (n : NodeState) (p : Publication) → AreQuiet n (Published p ∷ []) []
-published_quiet n p = record { changes = λ b. refl; accepted = λ b. refl; delivered = λ b. refl; inside = refl; placed = All-cons (IsPlaced n) (Published p) [] tt (All-nil (IsPlaced n)) }
+tables_running : {refusal : Option Answer} {w : Work} {given : Answer} (n : NodeState) (es : List Entry) → AreNamed n → IsPlainIn refusal → IsUntaken (kept_answer given) → w.neighbours ≡ n.neighbours → w.inside ≡ es → AreQuiet n es []
+    → IsRunning n (tables_plan n refusal w given)
+tables_running {refusal} {w} {given} n es are plain untaken same inside quiet =
+    record { plain = plain; untaken = untaken; stays = refl; run = quiet_run n (begun n) w es [] (named_stand n are) same inside quiet }
 
--- ---- a message
+names_running : {w : Work} {told : List Message} (n : NodeState) (refusal : Option Answer) (es : List Entry) → AreNamed n → IsPlainIn refusal → w.neighbours ≡ n.neighbours → w.inside ≡ es → AreQuiet n es [] → IsRunning n (names_plan n refusal w told)
+names_running {w} {told} n refusal es are plain same inside quiet = record {
+  plain = plain_either refusal (crowd_refusal n.neighbours told) plain (crowd_plain n.neighbours told);
+  untaken = tt;
+  stays = refl;
+  run = quiet_run n (begun n) w es [] (named_stand n are) same inside quiet;
+}
 
-sends_to_turn : (n n' : NodeState) (by : By) (call : EventNote) (m : Message) (limit : ℕ) (sent : Answer) (frames : List Outgoing) (answered : Answer) → AreNamed n → IsPlain sent
-    → SendsTo n n' by call m limit sent frames answered → IsCall n n' by call frames answered
-sends_to_turn n n' by call m limit sent frames answered named plain h = case (way_refusal n (destination_of m) limit) refl
-  where
-    case : (o : Option Answer) → way_refusal n (destination_of m) limit ≡ o → IsCall n n' by call frames answered
-    case (Some reason) is =
-        let r = h.refused reason is in
-        refused_turn n n' by call reason frames answered named (plain_reason (way_refusal n (destination_of m) limit) reason (way_plain n (destination_of m) limit) is) r.0 r.1 r.2
-    case None is =
-        let g = h.goes is in
-        turn_as n n' (concluded n by call g.0 sent) by call [] frames frames (kept_answer answered) sent g.2 refl (ap kept_answer g.3 ∙ plain.kept)
-        (run_turn n by call [] sent g.0 frames plain.untaken (goes_run n (begun n) g.0 m frames (named_stand n named) g.1))
+message_running : {m : Message} {given : Answer} (n : NodeState) (refusal : Option Answer) (limit : ℕ) → AreNamed n → IsPlainIn refusal → IsUntaken (kept_answer given) → IsRunning n (message_plan n refusal m limit given)
+message_running {m} {given} n refusal limit are plain untaken = record {
+  plain = plain_either refusal (way_refusal n (destination_of m) limit) plain (way_plain n (destination_of m) limit);
+  untaken = untaken;
+  stays = refl;
+  run = idle_run n (begun n) (begun n) (named_stand n are) refl refl;
+}
 
-sends_turn : (n n' : NodeState) (by : By) (port : ℕ) (to : PortId) (importance : Importance) (body : List ℕ) (frames : List Outgoing) (answered : Answer) → AreNamed n → SendsToPort n n' by port to importance body frames answered
-    → IsCall n n' by (event.SendPort port to importance body) frames answered
-sends_turn n n' by port to importance body frames answered named h = case (sender_refusal n port body) refl
-  where
-    case : (o : Option Answer) → sender_refusal n port body ≡ o → IsCall n n' by (event.SendPort port to importance body) frames answered
-    case (Some reason) is =
-        let r = h.refused reason is in
-        refused_turn n n' by (event.SendPort port to importance body) reason frames answered named (plain_reason (sender_refusal n port body) reason (sender_plain n port body) is) r.0 r.1 r.2
-    case None is =
-        sends_to_turn n n' by (event.SendPort port to importance body) (direct n.own port to importance body) (limit_of importance) answer.Sent frames answered named (record { kept = refl; untaken = tt }) (h.sends is)
-
-named_turn : (n n' : NodeState) (by : By) (port kind instance : ℕ) (importance : Importance) (body : List ℕ) (frames : List Outgoing) (answered : Answer) → AreNamed n
-    → SendsByName n n' by port kind instance importance body frames answered → IsCall n n' by (event.SendName port kind instance importance body) frames answered
-named_turn n n' by port kind instance importance body frames answered are h = case (sender_refusal n port body) refl
-  where
-    found : (ps : List Publication) → sender_refusal n port body ≡ None → found_at n kind instance ≡ ps → IsCall n n' by (event.SendName port kind instance importance body) frames answered
-    found [] clear is =
-        let r = h.unnamed clear is in
-        refused_turn n n' by (event.SendName port kind instance importance body) answer.NoName frames answered are (record { kept = refl; untaken = tt }) r.0 r.1 r.2
-    found (p ∷ ps) clear is =
-        let s = h.sends clear (λ none. (let wrong : p ∷ ps ≡ [] = sym is ∙ none in cc)) in
-        sends_to_turn n n' by (event.SendName port kind instance importance body) (named n.own port s.0.at kind instance importance body) (limit_of importance) (answer.SentTo s.0.at) frames answered are
-        (record { kept = refl; untaken = tt }) s.2
-
-    case : (o : Option Answer) → sender_refusal n port body ≡ o → IsCall n n' by (event.SendName port kind instance importance body) frames answered
-    case (Some reason) is =
-        let r = h.refused reason is in
-        refused_turn n n' by (event.SendName port kind instance importance body) reason frames answered are (plain_reason (sender_refusal n port body) reason (sender_plain n port body) is) r.0 r.1 r.2
-    case None is = found (found_at n kind instance) is refl
+name_running : (n : NodeState) (port kind instance : ℕ) (importance : Importance) (body : List ℕ) (chosen : Option Publication) → AreNamed n → IsRunning n (name_plan n port kind instance importance body chosen)
+name_running n port kind instance importance body None are =
+    let plain = plain_either (sender_refusal n port body) (Some answer.NoName) (sender_plain n port body) (record { kept = refl; untaken = tt }) in
+    tables_running n [] are plain tt refl refl (none_quiet n)
+name_running n port kind instance importance body (Some p) are = message_running n (sender_refusal n port body) (limit_of importance) are (sender_plain n port body) tt
 
 -- ---- what happens to all neighbours
 
@@ -184,43 +173,62 @@ done_turn own (upkeep.Mend bearer) s frames b x one h = opened_turn own (upkeep.
 done_turn own (upkeep.Cut bearer) s frames b x one h = opened_turn own (upkeep.Cut bearer) s frames b x h h.event_is one tt tt
 done_turn own upkeep.Tick s frames b x one h = opened_turn own upkeep.Tick s frames b x h h.event_is tt tt (shows_none x.in_step)
 
-abbrev upkeep_node : NodeState → By → Upkeep → NodeState
-upkeep_node n by d = concluded (with_mended n (mended_by d n.mended)) by (upkeep_note d) (upkeep_work d n) answer.Done
+-- what is told behind quiet entries is what is told before them
+quiet_behind : (test : Entry → Bool) (es ts : List Entry) → filter test ts ≡ [] → filter test (es ++ ts) ≡ filter test es
+quiet_behind test es ts none = filter-append test es ts ∙ ap (λ xs. filter test es ++ xs) none ∙ append-nil (filter test es)
 
-upkeep_turn : (n : NodeState) (by : By) (d : Upkeep) → AreNamed n → n.boot < 2 ^ 32 → IsOnBearer d → NodeTurn n (upkeep_node n by d) [] (step_of by (upkeep_note d) (entries_all d 0 n.neighbours) answer.Done) (upkeep_frames d n)
-upkeep_turn n by d named low one = node_turn n (upkeep_node n by d) [] (step_of by (upkeep_note d) (entries_all d 0 n.neighbours) answer.Done) (upkeep_frames d n) (record {
+-- a plan by which something happens to all neighbours alike, and quiet entries are noted behind
+record IsUpkeep (n : NodeState) (d : Upkeep) (p : Plan) : Type 0 where
+  pub more : List Entry
+  pub quiet : AreQuiet n more []
+  pub same : p.work.neighbours ≡ after_all d n.neighbours
+  pub inside : p.work.inside ≡ entries_all d 0 n.neighbours ++ more
+  pub answer_is : p.answered ≡ answer.Done
+
+upkeep_turn : (n : NodeState) (by : By) (d : Upkeep) (p : Plan) → AreNamed n → n.boot < 2 ^ 32 → IsOnBearer d → (u : IsUpkeep n d p)
+    → NodeTurn n (concluded_by n by (upkeep_note d) p p.work) [] (step_of by (upkeep_note d) (entries_all d 0 n.neighbours ++ u.more) answer.Done) (upkeep_frames d n)
+upkeep_turn n by d p named low one u = node_turn n (concluded_by n by (upkeep_note d) p p.work) [] s (upkeep_frames d n) (record {
   own = refl;
   boot = refl;
-  journal = refl;
-  inside = all_inside d 0 n.neighbours;
+  journal = (λ i. n.journal ++ step_entries (step_of by (upkeep_note d) (u.inside i) (kept_answer (u.answer_is i))));
+  inside = inside_both es u.more (all_inside d 0 n.neighbours) u.quiet.inside;
   turns = λ b x there. record {
     after = (done d x).after;
-    after_is = after_at d n.neighbours b ∙ ap (after_one d) there;
-    turn = done_turn n.own d (step_of by (upkeep_note d) (entries_all d 0 n.neighbours) answer.Done) (upkeep_frames d n) b x one (record {
+    after_is = ap (λ xs. slice_index_or xs b None) u.same ∙ after_at d n.neighbours b ∙ ap (after_one d) there;
+    turn = done_turn n.own d s (upkeep_frames d n) b x one (record {
       event_is = refl;
       answer_is = refl;
       frames_are = shares d n b each ∙ ap (λ o. states_one d o ++ numbered_one d o) there;
-      changes = all_changes d n.neighbours b ∙ ap (entries_one d b) there;
-      accepted = all_accept d b 0 n.neighbours;
-      delivered = all_deliver d b 0 n.neighbours;
+      changes = quiet_behind (is_change_of b) es u.more (u.quiet.changes b) ∙ all_changes d n.neighbours b ∙ ap (entries_one d b) there;
+      accepted = quiet_behind (is_accepted_for b) es u.more (u.quiet.accepted b) ∙ all_accept d b 0 n.neighbours;
+      delivered = quiet_behind (is_delivered_from b) es u.more (u.quiet.delivered b) ∙ all_deliver d b 0 n.neighbours;
     });
   };
-  alone = λ b none. after_at d n.neighbours b ∙ ap (after_one d) none;
+  alone = λ b none. ap (λ xs. slice_index_or xs b None) u.same ∙ after_at d n.neighbours b ∙ ap (after_one d) none;
   untaken = λ b none a es er p is taken from link. (let wrong : answer.Done ≡ answer.Arrived a = is in cc);
   routed = all_routed n d one low each;
-  placed = all_placed n d;
+  placed = All-append (IsPlaced n) es u.more (all_placed n d) u.quiet.placed;
 })
   where
+    es : List Entry
+    es = entries_all d 0 n.neighbours
+
+    s : NodeStep
+    s = step_of by (upkeep_note d) (es ++ u.more) answer.Done
+
     each : (b : ℕ) (x : Neighbour) → slice_index_or n.neighbours b None ≡ Some x → AreFor (node_word b) (done d x).states × AreFor (node_word b) (done d x).numbered
     each b x there = done_for d b x (named_there n b x named there)
 
-takes_part_turn : (n n' : NodeState) (by : By) (d : Upkeep) (call : EventNote) (frames : List Outgoing) (answered : Answer) → AreNamed n → n.boot < 2 ^ 32 → IsOnBearer d → call ≡ upkeep_note d → TakesPart n by d n' frames answered → IsCall n n' by call frames answered
-takes_part_turn n n' by d call frames answered named low one is h =
-    subst (λ note. IsCall n n' by note frames answered) (sym is)
-    (turn_as n n' (upkeep_node n by d) by (upkeep_note d) [] frames (upkeep_frames d n) (kept_answer answered) answer.Done h.0 h.1 (ap kept_answer h.2) (entries_all d 0 n.neighbours, upkeep_turn n by d named low one))
+upkeeps : (n n' : NodeState) (by : By) (d : Upkeep) (p : Plan) (frames : List Outgoing) (answered : Answer) → AreNamed n → n.boot < 2 ^ 32 → IsOnBearer d → IsUpkeep n d p
+    → Does (frames_alone (upkeep_frames d n)) n by (upkeep_note d) p n' frames answered → IsCall n n' by (upkeep_note d) frames answered
+upkeeps n n' by d p frames answered named low one u h =
+    turn_as n n' (concluded_by n by (upkeep_note d) p p.work) by (upkeep_note d) [] frames (upkeep_frames d n) (kept_answer answered) answer.Done h.0 h.1 (ap kept_answer (h.2 ∙ u.answer_is)) (entries_all d 0 n.neighbours ++ u.more, upkeep_turn n by d p named low one u)
 
--- ---- a tick
+-- of a bearer
+bearer_upkeep : (n : NodeState) (d : Upkeep) → IsUpkeep n d (upkeep_plan n d)
+bearer_upkeep n d = record { more = []; quiet = none_quiet n; same = refl; inside = sym (append-nil (entries_all d 0 n.neighbours)); answer_is = refl }
 
+-- of the clock
 timed_quiet : (n : NodeState) (numbers : List ℕ) → AreQuiet n (map TimedOut numbers) []
 timed_quiet n [] = none_quiet n
 timed_quiet n (number ∷ numbers) =
@@ -232,92 +240,44 @@ timed_quiet n (number ∷ numbers) =
       placed = All-cons (IsPlaced n) (TimedOut number) (map TimedOut numbers) tt later.placed;
     }
 
--- what is told behind quiet entries is what is told before them
-quiet_behind : (test : Entry → Bool) (es ts : List Entry) → filter test ts ≡ [] → filter test (es ++ ts) ≡ filter test es
-quiet_behind test es ts none = filter-append test es ts ∙ ap (λ xs. filter test es ++ xs) none ∙ append-nil (filter test es)
-
-abbrev tick_node : NodeState → By → NodeState
-tick_node n by = concluded (with_tick n) by event.Tick (tick_work n) answer.Done
-
-tick_turn : (n : NodeState) (by : By) → AreNamed n → n.boot < 2 ^ 32
-    → NodeTurn n (tick_node n by) [] (step_of by event.Tick (entries_all upkeep.Tick 0 n.neighbours ++ timeouts_of n.sockets) answer.Done) (upkeep_frames upkeep.Tick n)
-tick_turn n by named low = node_turn n (tick_node n by) [] (step_of by event.Tick (es ++ ts) answer.Done) (upkeep_frames upkeep.Tick n) (record {
-  own = refl;
-  boot = refl;
-  journal = refl;
-  inside = inside_both es ts (all_inside upkeep.Tick 0 n.neighbours) quiet.inside;
-  turns = λ b x there. record {
-    after = (done upkeep.Tick x).after;
-    after_is = after_at upkeep.Tick n.neighbours b ∙ ap (after_one upkeep.Tick) there;
-    turn = done_turn n.own upkeep.Tick (step_of by event.Tick (es ++ ts) answer.Done) (upkeep_frames upkeep.Tick n) b x tt (record {
-      event_is = refl;
-      answer_is = refl;
-      frames_are = shares upkeep.Tick n b each ∙ ap (λ o. states_one upkeep.Tick o ++ numbered_one upkeep.Tick o) there;
-      changes = quiet_behind (is_change_of b) es ts (quiet.changes b) ∙ all_changes upkeep.Tick n.neighbours b ∙ ap (entries_one upkeep.Tick b) there;
-      accepted = quiet_behind (is_accepted_for b) es ts (quiet.accepted b) ∙ all_accept upkeep.Tick b 0 n.neighbours;
-      delivered = quiet_behind (is_delivered_from b) es ts (quiet.delivered b) ∙ all_deliver upkeep.Tick b 0 n.neighbours;
-    });
-  };
-  alone = λ b none. after_at upkeep.Tick n.neighbours b ∙ ap (after_one upkeep.Tick) none;
-  untaken = λ b none a es er p is taken from link. (let wrong : answer.Done ≡ answer.Arrived a = is in cc);
-  routed = all_routed n upkeep.Tick tt low each;
-  placed = All-append (IsPlaced n) es ts (all_placed n upkeep.Tick) quiet.placed;
-})
-  where
-    es : List Entry
-    es = entries_all upkeep.Tick 0 n.neighbours
-
-    ts : List Entry
-    ts = timeouts_of n.sockets
-
-    quiet : AreQuiet n ts []
-    quiet = timed_quiet n (due n.sockets.watchers.kept)
-
-    each : (b : ℕ) (x : Neighbour) → slice_index_or n.neighbours b None ≡ Some x → AreFor (node_word b) (done upkeep.Tick x).states × AreFor (node_word b) (done upkeep.Tick x).numbered
-    each b x there = done_for upkeep.Tick b x (named_there n b x named there)
+clock_upkeep : (n : NodeState) → IsUpkeep n upkeep.Tick (tick_plan n)
+clock_upkeep n = record { more = timeouts_of n.sockets; quiet = timed_quiet n (due n.sockets.watchers.kept); same = refl; inside = refl; answer_is = refl }
 
 -- ---- every call
 
+-- a call whose work is a run
+run_call : (n n' : NodeState) (by : By) (call : EventNote) (frames : List Outgoing) (answered : Answer) → AreNamed n → (h : Performs n by call n' frames answered) → IsRunning n (plan_of n call h.chosen) → IsCall n n' by call frames answered
+run_call n n' by call frames answered are h running = carried_turn n n' by call (plan_of n call h.chosen) frames answered are running h.carried
+
 pub performs_turn : (n n' : NodeState) (by : By) (call : EventNote) (frames : List Outgoing) (answered : Answer) → AreNamed n → n.boot < 2 ^ 32 → CanPerform call → Performs n by call n' frames answered
     → (inside : List Entry) × NodeTurn n n' [] (step_of by call inside (kept_answer answered)) frames
-performs_turn n n' by event.Socket frames answered are low can h =
-    let w = with_sockets_of (begun n) (with_socket n.sockets (next_port n.sockets)) in
-    makes_turn n n' by event.Socket (socket_refusal n.sockets) w (answer.Socket (next_port n.sockets)) frames answered are (socket_plain n.sockets) tt (idle_run n (begun n) w (named_stand n are) refl refl) h
+performs_turn n n' by event.Socket frames answered are low can h = run_call n n' by event.Socket frames answered are h (tables_running n [] are (socket_plain n.sockets) tt refl refl (none_quiet n))
 performs_turn n n' by (event.Close port) frames answered are low can h =
     let ps = filter (is_at port) n.sockets.live in
-    tells_turn n n' by (event.Close port) (port_refusal n.sockets port) (closed_work n port) (told_closing n.sockets port) frames answered are (port_plain n.sockets port)
-    (quiet_run n (begun n) (closed_work n port) (map Withdrawn ps) [] (named_stand n are) refl refl (all_withdrawn n ps)) h
+    run_call n n' by (event.Close port) frames answered are h (names_running n (port_refusal n.sockets port) (map Withdrawn ps) are (port_plain n.sockets port) refl refl (all_withdrawn n ps))
 performs_turn n n' by (event.Publish port range scope key) frames answered are low can h =
-    let w = published_work n port range scope key in
     let p = own_publication n.own port range scope key in
-    tells_turn n n' by (event.Publish port range scope key) (publication_refusal n.sockets port range.kind key) w (telling false p) frames answered are (publication_plain n.sockets port range.kind key)
-    (quiet_run n (begun n) w (Published p ∷ []) [] (named_stand n are) refl refl (published_quiet n p)) h
+    let quiet = quiet_one n (Published p) (λ b. refl) (λ b. refl) (λ b. refl) refl tt in
+    run_call n n' by (event.Publish port range scope key) frames answered are h (names_running n (publication_refusal n.sockets port range.kind key) (Published p ∷ []) are (publication_plain n.sockets port range.kind key) refl refl quiet)
 performs_turn n n' by (event.Withdraw port key) frames answered are low can h =
     let o = published_at n.sockets port key in
-    tells_turn n n' by (event.Withdraw port key) (withdrawal_refusal n.sockets port key) (withdrawn_work n port key) (told_withdrawal n.sockets port key) frames answered are (withdrawal_plain n.sockets port key)
-    (quiet_run n (begun n) (withdrawn_work n port key) (withdrawn_entries o) [] (named_stand n are) refl refl (withdrawn_quiet n o)) h
-performs_turn n n' by (event.SendName port kind instance importance body) frames answered are low can h = named_turn n n' by port kind instance importance body frames answered are h
-performs_turn n n' by (event.SendPort port to importance body) frames answered are low can h = sends_turn n n' by port to importance body frames answered are h
+    run_call n n' by (event.Withdraw port key) frames answered are h (names_running n (withdrawal_refusal n.sockets port key) (withdrawn_entries o) are (withdrawal_plain n.sockets port key) refl refl (withdrawn_quiet n o))
+performs_turn n n' by (event.SendName port kind instance importance body) frames answered are low can h =
+    run_call n n' by (event.SendName port kind instance importance body) frames answered are h (name_running n port kind instance importance body h.chosen are)
+performs_turn n n' by (event.SendPort port to importance body) frames answered are low can h =
+    run_call n n' by (event.SendPort port to importance body) frames answered are h (message_running n (sender_refusal n port body) (limit_of importance) are (sender_plain n port body) tt)
 performs_turn n n' by (event.Receive port) frames answered are low can h =
-    let queue = waiting_at n.sockets port in
-    makes_turn n n' by (event.Receive port) (port_refusal n.sockets port) (received_work n port) (first_answer queue) frames answered are (port_plain n.sockets port) (received_untaken queue)
-    (idle_run n (begun n) (received_work n port) (named_stand n are) refl refl) h
+    run_call n n' by (event.Receive port) frames answered are h (tables_running n [] are (port_plain n.sockets port) (received_untaken (waiting_at n.sockets port)) refl refl (none_quiet n))
 performs_turn n n' by (event.Subscribe asked) frames answered are low can h =
     let e = Subscribed (next_number n.sockets) asked in
-    makes_turn n n' by (event.Subscribe asked) (subscription_refusal n.sockets asked) (subscribed_work n asked) (answer.Subscribed (next_number n.sockets)) frames answered are (subscription_plain n.sockets asked) tt
-    (quiet_run n (begun n) (subscribed_work n asked) (e ∷ []) [] (named_stand n are) refl refl
-    (record { changes = λ b. refl; accepted = λ b. refl; delivered = λ b. refl; inside = refl; placed = All-cons (IsPlaced n) e [] tt (All-nil (IsPlaced n)) })) h
+    run_call n n' by (event.Subscribe asked) frames answered are h (tables_running n (e ∷ []) are (subscription_plain n.sockets asked) tt refl refl (quiet_one n e (λ b. refl) (λ b. refl) (λ b. refl) refl tt))
 performs_turn n n' by (event.Cancel number) frames answered are low can h =
     let e = Cancelled number in
-    makes_turn n n' by (event.Cancel number) (number_refusal n.sockets number) (cancelled_work n number) answer.Done frames answered are (number_plain n.sockets number) tt
-    (quiet_run n (begun n) (cancelled_work n number) (e ∷ []) [] (named_stand n are) refl refl
-    (record { changes = λ b. refl; accepted = λ b. refl; delivered = λ b. refl; inside = refl; placed = All-cons (IsPlaced n) e [] tt (All-nil (IsPlaced n)) })) h
+    run_call n n' by (event.Cancel number) frames answered are h (tables_running n (e ∷ []) are (number_plain n.sockets number) tt refl refl (quiet_one n e (λ b. refl) (λ b. refl) (λ b. refl) refl tt))
 performs_turn n n' by (event.NextEvent number) frames answered are low can h =
-    makes_turn n n' by (event.NextEvent number) (number_refusal n.sockets number) (next_work n number) (next_answer (first_event n.sockets number)) frames answered are (number_plain n.sockets number) (next_untaken (first_event n.sockets number))
-    (idle_run n (begun n) (next_work n number) (named_stand n are) refl refl) h
-performs_turn n n' by event.Tick frames answered are low can h =
-    turn_as n n' (tick_node n by) by event.Tick [] frames (upkeep_frames upkeep.Tick n) (kept_answer answered) answer.Done h.0 h.1 (ap kept_answer h.2)
-    (entries_all upkeep.Tick 0 n.neighbours ++ timeouts_of n.sockets, tick_turn n by are low)
-performs_turn n n' by (event.Cut bearer) frames answered are low can h = takes_part_turn n n' by (upkeep.Cut bearer) (event.Cut bearer) frames answered are low can refl h
-performs_turn n n' by (event.Mend bearer) frames answered are low can h = takes_part_turn n n' by (upkeep.Mend bearer) (event.Mend bearer) frames answered are low can refl h
-performs_turn n n' by other frames answered are low can h = absurd h
+    run_call n n' by (event.NextEvent number) frames answered are h (tables_running n [] are (number_plain n.sockets number) (next_untaken (first_event n.sockets number)) refl refl (none_quiet n))
+performs_turn n n' by event.Tick frames answered are low can h = upkeeps n n' by upkeep.Tick (tick_plan n) frames answered are low tt (clock_upkeep n) h.carried
+performs_turn n n' by (event.Cut bearer) frames answered are low can h = upkeeps n n' by (upkeep.Cut bearer) (upkeep_plan n (upkeep.Cut bearer)) frames answered are low can (bearer_upkeep n (upkeep.Cut bearer)) h.carried
+performs_turn n n' by (event.Mend bearer) frames answered are low can h = upkeeps n n' by (upkeep.Mend bearer) (upkeep_plan n (upkeep.Mend bearer)) frames answered are low can (bearer_upkeep n (upkeep.Mend bearer)) h.carried
+performs_turn n n' by (event.Multicast port kind lower upper importance body) frames answered are low can h = absurd h.choice
+performs_turn n n' by (event.Arrive bearer number) frames answered are low can h = absurd h.choice

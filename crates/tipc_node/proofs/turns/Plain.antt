@@ -1,5 +1,5 @@
 -- The answers of calls: the journal keeps all of each, but for a message that was received, and none tells of an arrival.
-use Rattle.std.proofs.Common.{◌≡◌, ℕ, List, [], ◌∷◌, Option, Some, None, is_some, length, nat_le, not, refl, subst}
+use Rattle.std.proofs.Common.{◌≡◌, ℕ, List, [], ◌∷◌, Option, Some, None, is_some, length, nat_le, not, refl}
 use Rattle.std.specs.Prelude.{◌==◌, ◌||◌, if◌then◌else◌, nat_lt, option_map}
 use Rattle.tipc_types.specs.declared.identity.Addr.{Addr}
 use Rattle.tipc_types.specs.declared.message_forms.Message.{Message}
@@ -16,8 +16,9 @@ use Rattle.tipc_sockets.specs.declared.publishing.PublishFault.TheVariants as fa
 use Rattle.tipc_sockets.specs.Publishing.{publish_refusal, published_at}
 use Rattle.tipc_sockets.specs.SocketTables.{SocketTable, has_port}
 use Rattle.tipc_node.specs.declared.neighbours.Neighbour.{Neighbour}
-use Rattle.tipc_node.specs.Calls.{link_refusal, sender_refusal, way_refusal}
+use Rattle.tipc_node.specs.Calls.{sender_refusal}
 use Rattle.tipc_node.specs.Nodes.{NodeState, load_with}
+use Rattle.tipc_node.specs.Plans.{link_refusal, or_else, way_refusal}
 use Rattle.tipc_node.specs.Sockets.{crowd_refusal, crowded_answer, first_answer, first_crowded, kept_answer, key_refusal, number_refusal, port_refusal, publication_refusal, refused_publication, socket_refusal, subscription_refusal, withdrawal_refusal}
 use Rattle.tipc_node.specs.Works.{neighbour_at}
 use Rattle.tipc_pair.proofs.turns.Addressing.{either}
@@ -33,8 +34,9 @@ abbrev pub IsPlainIn : Option Answer → Type 0
 IsPlainIn None = Unit {0}
 IsPlainIn (Some a) = IsPlain a
 
-pub plain_reason : (o : Option Answer) (reason : Answer) → IsPlainIn o → o ≡ Some reason → IsPlain reason
-plain_reason o reason plain is = subst IsPlainIn is plain
+pub plain_either : (first other : Option Answer) → IsPlainIn first → IsPlainIn other → IsPlainIn (or_else first other)
+plain_either None other plain later = later
+plain_either (Some reason) other plain later = plain
 
 pub socket_plain : (s : SocketTable) → IsPlainIn (socket_refusal s)
 socket_plain s = either IsPlainIn (nat_le most_sockets (length s.ports.present) || nat_le most_sockets_made s.ports.made) (Some (answer.Full most_sockets)) None (record { kept = refl; untaken = tt }) tt

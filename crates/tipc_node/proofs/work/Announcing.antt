@@ -1,7 +1,6 @@
 -- A call that changes names and tells peers of it, as the code makes it: refused, or done behind a draft of the step.
-use Rattle.std.proofs.Common.{◌≡◌, Bool, List, [], ◌∷◌, ◌++◌, Option, None, Some, Result, refl, sym, ap, ◌∙◌, subst, append-nil}
+use Rattle.std.proofs.Common.{◌≡◌, Bool, List, [], ◌∷◌, ◌++◌, Option, None, Result, refl, sym, ap, ◌∙◌, subst, append-nil}
 use Rattle.std.specs.Prelude.{IfOk}
-use Rattle.std.proofs.lemmas.Result.{IfOk-weaker}
 use Rattle.tipc_types.specs.declared.message_forms.Message.{Message}
 use Rattle.tipc_types.specs.declared.node_calls.Answer.{Answer}
 use Rattle.tipc_types.specs.declared.node_calls.Answer.TheVariants as answer
@@ -10,60 +9,22 @@ use Rattle.tipc_types.specs.declared.node_calls.EventNote.{EventNote}
 use Rattle.tipc_types.specs.declared.services.Publication.{Publication}
 use Rattle.tipc_outside.specs.declared.outgoing.Outgoing.{Outgoing}
 use Rattle.tipc_outside.specs.Frames.{Adds, Out, no_frames}
-use Rattle.tipc_outside.proofs.Adding.{adds_none}
 use Rattle.tipc_journal.specs.declared.entries.Entry.{Entry}
 use Rattle.tipc_journal.specs.Steps.{step_entries}
 use Rattle.tipc_name_dist.specs.Items.{telling, tellings}
 use Rattle.tipc_sockets.specs.SocketTables.{SocketTable}
 use Rattle.tipc_node.specs.declared.neighbours.Neighbour.{Neighbour}
-use Rattle.tipc_node.specs.Calls.{Tells}
 use Rattle.tipc_node.specs.Drafts.{DraftState, ToldPeers, own_of, with_sockets_in}
-use Rattle.tipc_node.specs.Nodes.{NodeState, recorded, step_of}
+use Rattle.tipc_node.specs.Nodes.{NodeState, step_of}
+use Rattle.tipc_node.specs.Plans.{DoesUnless, names_plan}
 use Rattle.tipc_node.specs.Sockets.{crowd_refusal, with_sockets_of}
 use Rattle.tipc_node.specs.Works.{Work, work_of}
 use Rattle.tipc_node.proofs.work.Making.{node_of}
+use Rattle.tipc_node.proofs.work.Planned.{IsCarried}
 
 -- peers were told by the call, and these frames left
 abbrev pub IsAnnounced : NodeState → NodeState → By → EventNote → Option Answer → Work → List Message → Out → Out → Answer → Type 0
-IsAnnounced n n' by event reason w told box box' answered = (frames : List Outgoing) × Tells n n' by event reason w told frames answered × Adds box box' frames
-
--- ---- a call that is refused
-
--- it was recorded, and nothing else
-abbrev pub IsRefused : NodeState → NodeState → By → EventNote → Answer → Answer → Type 0
-IsRefused n n' by event why answered = (answered ≡ why) × (n' ≡ recorded n by event [] why)
-
-not_both : {A : Type 0} (o : Option A) (x : A) → o ≡ Some x → o ≡ None → ⊥
-not_both o x some none = (let wrong : Some x ≡ None = sym some ∙ none in cc)
-
-same_in : {A : Type 0} (o : Option A) (x y : A) → o ≡ Some x → o ≡ Some y → x ≡ y
-same_in o x y some other = (let both : Some x ≡ Some y = sym some ∙ other in cc)
-
--- for a reason that the sockets tell
-pub announced_refused : {E : Type 0} (r : Result Answer E) (n n' : NodeState) (by : By) (event : EventNote) (reason : Option Answer) (w : Work) (told : List Message) (box : Out) (why : Answer) → reason ≡ Some why
-    → IfOk r (IsRefused n n' by event why) → IfOk r (IsAnnounced n n' by event reason w told box box)
-announced_refused r n n' by event reason w told box why some ok = IfOk-weaker r (IsRefused n n' by event why) (IsAnnounced n n' by event reason w told box box) (λ a h. (
-  [],
-  record {
-    refused = λ other there. (let same = same_in reason why other some there in (h.1 ∙ ap (recorded n by event []) same, refl, h.0 ∙ same));
-    crowded = λ other none. absurd (not_both reason why some none);
-    tells = λ none. absurd (not_both reason why some none);
-  },
-  adds_none box,
-)) ok
-
--- since a peer is crowded
-pub announced_crowded : {E : Type 0} (r : Result Answer E) (n n' : NodeState) (by : By) (event : EventNote) (reason : Option Answer) (w : Work) (told : List Message) (box : Out) (why : Answer) → reason ≡ None → crowd_refusal n.neighbours told ≡ Some why
-    → IfOk r (IsRefused n n' by event why) → IfOk r (IsAnnounced n n' by event reason w told box box)
-announced_crowded r n n' by event reason w told box why none some ok = IfOk-weaker r (IsRefused n n' by event why) (IsAnnounced n n' by event reason w told box box) (λ a h. (
-  [],
-  record {
-    refused = λ other there. absurd (not_both reason other there none);
-    crowded = λ other _ there. (let same = same_in (crowd_refusal n.neighbours told) why other some there in (h.1 ∙ ap (recorded n by event []) same, refl, h.0 ∙ same));
-    tells = λ _ clear. absurd (not_both (crowd_refusal n.neighbours told) why some clear);
-  },
-  adds_none box,
-)) ok
+IsAnnounced n n' by call reason w told box box' answered = IsCarried n n' by call (names_plan n reason w told) box box' answered
 
 -- ---- a call that is done
 
@@ -97,21 +58,18 @@ shared_drafted k by event idle shared last front told ys journal box box' h = re
   recorded_is = h.recorded_is;
 }
 
-pub announced : (k : NodeState) (by : By) (event : EventNote) (reason : Option Answer) (w : Work) (front : List Entry) (told given : List Message) (xs : List (Option Neighbour)) (s : SocketTable) (es journal : List Entry) (drafted box box' : Out)
-    → reason ≡ None → crowd_refusal k.neighbours given ≡ None → given ≡ told → front ≡ w.inside → w.neighbours ≡ k.neighbours → s ≡ w.sockets → IsDrafted k by event front given xs es journal drafted box box'
-    → IsAnnounced k (node_of k xs s journal) by event reason w told box box' answer.Done
-announced k by event reason w front told given xs s es journal drafted box box' none clear same first neighbours sockets h =
+pub announced : (k : NodeState) (by : By) (event : EventNote) (w : Work) (front : List Entry) (told given : List Message) (xs : List (Option Neighbour)) (s : SocketTable) (es journal : List Entry) (drafted box box' : Out)
+    → crowd_refusal k.neighbours given ≡ None → given ≡ told → front ≡ w.inside → w.neighbours ≡ k.neighbours → s ≡ w.sockets → IsDrafted k by event front given xs es journal drafted box box'
+    → IsAnnounced k (node_of k xs s journal) by event None w told box box' answer.Done
+announced k by event w front told given xs s es journal drafted box box' clear same first neighbours sockets h =
     let t = h.tells w.sockets in
     let one = subst (λ ms. ToldPeers k.own (work_of k.neighbours w.sockets front) ms (work_of xs w.sockets es) no_frames drafted) same t in
     let two = subst (λ fs. ToldPeers k.own (work_of k.neighbours w.sockets fs) told (work_of xs w.sockets es) no_frames drafted) first one in
     let all = subst (λ ys. ToldPeers k.own (work_of ys w.sockets w.inside) told (work_of xs w.sockets es) no_frames drafted) (sym neighbours) two in
     let free : crowd_refusal k.neighbours told ≡ None = ap (crowd_refusal k.neighbours) (sym same) ∙ clear in (
       all.frames,
-      record {
-        refused = λ why there. absurd (not_both reason why there none);
-        crowded = λ why _ there. absurd (not_both (crowd_refusal k.neighbours told) why there free);
-        tells = λ _ _. (work_of xs w.sockets es, all.tells, ap (λ u. node_of k xs u journal) sockets ∙ ap (node_of k xs w.sockets) h.recorded_is, refl);
-      },
+      subst (λ (o : Option Answer). DoesUnless o k by event (names_plan k None w told) (node_of k xs s journal) all.frames answer.Done) (sym free)
+          (work_of xs w.sockets es, all.tells, ap (λ u. node_of k xs u journal) sockets ∙ ap (node_of k xs w.sockets) h.recorded_is, refl),
       h.leaves all.frames all.adds,
     )
 

@@ -11,103 +11,72 @@ use Rattle.tipc_types.specs.declared.node_calls.By.{By}
 use Rattle.tipc_types.specs.declared.node_calls.EventNote.{EventNote}
 use Rattle.tipc_types.specs.declared.node_calls.EventNote.TheVariants.{SendName, SendPort}
 use Rattle.tipc_types.specs.declared.services.Publication.{Publication}
-use Rattle.tipc_outside.specs.declared.outgoing.Outgoing.{Outgoing}
-use Rattle.tipc_outside.specs.Frames.{Adds, Out}
-use Rattle.tipc_outside.proofs.Adding.{adds_none}
+use Rattle.tipc_outside.specs.Frames.{Out}
 use Rattle.tipc_journal.specs.Licensed.{IsPickedOf}
 use Rattle.tipc_journal.specs.Refusals.{longest_body}
 use Rattle.tipc_types.specs.Matching.{closest, covers}
 use Rattle.tipc_sockets.specs.SocketTables.{has_port}
-use Rattle.tipc_node.specs.Calls.{Performs, SendsToPort, SendsByName, sender_refusal}
-use Rattle.tipc_node.specs.Messages.{limit_of, named}
-use Rattle.tipc_node.specs.Nodes.{NodeState, recorded}
+use Rattle.tipc_node.specs.Calls.{IsChoice, name_plan, sender_refusal}
+use Rattle.tipc_node.specs.Messages.{direct, limit_of, named}
+use Rattle.tipc_node.specs.Nodes.{NodeState}
+use Rattle.tipc_node.specs.Plans.{message_plan, or_else, way_refusal}
 use Rattle.tipc_node.specs.Sockets.{found_at}
+use Rattle.tipc_node.proofs.work.Planned.{IsCarried, IsPerformed, IsRefused, performs_refused}
 use Rattle.tipc_node.proofs.work.Wayfaring.{IsSentTo}
-
--- ---- to a port
-
-abbrev pub IsSend : NodeState → NodeState → By → ℕ → PortId → Importance → List ℕ → Out → Out → Answer → Type 0
-IsSend n n' by port to importance body box box' answered = (frames : List Outgoing) × SendsToPort n n' by port to importance body frames answered × Adds box box' frames
-
-pub send_refused : (n n' : NodeState) (by : By) (port : ℕ) (to : PortId) (importance : Importance) (body : List ℕ) (box : Out) (why answered : Answer) → sender_refusal n port body ≡ Some why
-    → (answered ≡ why) × (n' ≡ recorded n by (SendPort port to importance body) [] why) → IsSend n n' by port to importance body box box answered
-send_refused n n' by port to importance body box why answered some is = (
-  [],
-  record {
-    refused = λ reason there. (let same : why ≡ reason = (let both : Some why ≡ Some reason = sym some ∙ there in cc) in (is.1 ∙ ap (recorded n by (SendPort port to importance body) []) same, refl, is.0 ∙ same));
-    sends = λ none. absurd (let wrong : Some why ≡ None = sym some ∙ none in let bad : ⊥ = cc in bad);
-  },
-  adds_none box,
-)
-
--- ---- by name
-
-abbrev pub IsNamedSend : NodeState → NodeState → By → ℕ → ℕ → ℕ → Importance → List ℕ → Out → Out → Answer → Type 0
-IsNamedSend n n' by port kind instance importance body box box' answered = (frames : List Outgoing) × SendsByName n n' by port kind instance importance body frames answered × Adds box box' frames
-
-pub name_refused : (n n' : NodeState) (by : By) (port kind instance : ℕ) (importance : Importance) (body : List ℕ) (box : Out) (why answered : Answer) → sender_refusal n port body ≡ Some why
-    → (answered ≡ why) × (n' ≡ recorded n by (SendName port kind instance importance body) [] why) → IsNamedSend n n' by port kind instance importance body box box answered
-name_refused n n' by port kind instance importance body box why answered some is = (
-  [],
-  record {
-    refused = λ reason there. (let same : why ≡ reason = (let both : Some why ≡ Some reason = sym some ∙ there in cc) in (is.1 ∙ ap (recorded n by (SendName port kind instance importance body) []) same, refl, is.0 ∙ same));
-    unnamed = λ none _. absurd (let wrong : Some why ≡ None = sym some ∙ none in let bad : ⊥ = cc in bad);
-    sends = λ none _. absurd (let wrong : Some why ≡ None = sym some ∙ none in let bad : ⊥ = cc in bad);
-  },
-  adds_none box,
-)
-
-pub name_unfound : (n n' : NodeState) (by : By) (port kind instance : ℕ) (importance : Importance) (body : List ℕ) (box : Out) (answered : Answer) → sender_refusal n port body ≡ None → found_at n kind instance ≡ []
-    → (answered ≡ answer.NoName) × (n' ≡ recorded n by (SendName port kind instance importance body) [] answer.NoName) → IsNamedSend n n' by port kind instance importance body box box answered
-name_unfound n n' by port kind instance importance body box answered none empty is = (
-  [],
-  record {
-    refused = λ reason there. absurd (let wrong : None ≡ Some reason = sym none ∙ there in let bad : ⊥ = cc in bad);
-    unnamed = λ _ _. (is.1, refl, is.0);
-    sends = λ _ some. absurd (some empty);
-  },
-  adds_none box,
-)
-
-pub name_sent : (n n' : NodeState) (by : By) (port kind instance : ℕ) (importance : Importance) (body : List ℕ) (box box' : Out) (place : ℕ) (p : Publication) (why : Option Answer) → sender_refusal n port body ≡ None
-    → slice_get (found_at n kind instance) place ≡ Some p
-    → IsSentTo n n' by (SendName port kind instance importance body) (named n.own port p.at kind instance importance body) (limit_of importance) (answer.SentTo p.at) box box' why
-    → IsNamedSend n n' by port kind instance importance body box box' (unwrap_or why (answer.SentTo p.at))
-name_sent n n' by port kind instance importance body box box' place p why none found sent = (
-  sent.0,
-  record {
-    refused = λ reason there. absurd (let wrong : None ≡ Some reason = sym none ∙ there in let bad : ⊥ = cc in bad);
-    unnamed = λ _ empty. absurd (let wrong : None ≡ Some p = sym (ap (λ ps. slice_get ps place) empty) ∙ found in let bad : ⊥ = cc in bad);
-    sends = λ _ _. (p, record { place = place; is = found }, sent.1);
-  },
-  sent.2,
-)
 
 -- ---- a call that was answered
 
+-- a message went its way or was refused there, and nothing else speaks against it
+pub sent_as : (n n' : NodeState) (by : By) (call note : EventNote) (reason : Option Answer) (m m' : Message) (limit limit' : ℕ) (sent : Answer) (box box' : Out) (why : Option Answer) → reason ≡ None → note ≡ call → m ≡ m' → limit ≡ limit'
+    → IsSentTo n n' by note m limit sent box box' why → IsCarried n n' by call (message_plan n reason m' limit' sent) box box' (unwrap_or why sent)
+sent_as n n' by call note reason m m' limit limit' sent box box' why none noted message most h =
+    subst (λ (o : Option Answer). IsCarried n n' by call (message_plan n o m' limit' sent) box box' (unwrap_or why sent)) (sym none)
+    (subst (λ e. IsSentTo n n' by e m' limit' sent box box' why) noted
+    (subst (λ x. IsSentTo n n' by note x limit' sent box box' why) message (subst (λ k. IsSentTo n n' by note m k sent box box' why) most h)))
+
 pub port_refused : {E : Type 0} (r : Result Answer E) (n n' : NodeState) (by : By) (port : ℕ) (to : PortId) (importance : Importance) (body : List ℕ) (box : Out) (why : Answer) (note : EventNote) → sender_refusal n port body ≡ Some why
-    → note ≡ SendPort port to importance body → IfOk r (λ a. (a ≡ why) × (n' ≡ recorded n by note [] why)) → IfOk r (IsSend n n' by port to importance body box box)
+    → note ≡ SendPort port to importance body → IfOk r (IsRefused n n' by note why) → IfOk r (IsPerformed n n' by (SendPort port to importance body) box box)
 port_refused r n n' by port to importance body box why note some is ok =
-    IfOk-weaker r (λ a. (a ≡ why) × (n' ≡ recorded n by note [] why)) (IsSend n n' by port to importance body box box)
-    (λ a h. send_refused n n' by port to importance body box why a some (h.0, h.1 ∙ ap (λ e. recorded n by e [] why) is)) ok
+    performs_refused r n n' by (SendPort port to importance body) note None box why refl (ap (λ (o : Option Answer). or_else o (way_refusal n to.node (limit_of importance))) some) is ok
+
+pub port_answered : (n n' : NodeState) (by : By) (port : ℕ) (to : PortId) (importance : Importance) (body : List ℕ) (box box' : Out) (note : EventNote) (m : Message) (limit : ℕ) (why : Option Answer) (answered : Answer) → sender_refusal n port body ≡ None
+    → note ≡ SendPort port to importance body → m ≡ direct n.own port to importance body → limit ≡ limit_of importance → IsSentTo n n' by note m limit answer.Sent box box' why → unwrap_or why answer.Sent ≡ answered
+    → IsPerformed n n' by (SendPort port to importance body) box box' answered
+port_answered n n' by port to importance body box box' note m limit why answered none noted message most sent is =
+    let h = sent_as n n' by (SendPort port to importance body) note (sender_refusal n port body) m (direct n.own port to importance body) limit (limit_of importance) answer.Sent box box' why none noted message most sent in
+    subst (IsPerformed n n' by (SendPort port to importance body) box box') is (h.0, record { chosen = None; choice = refl; carried = h.1 }, h.2)
+
+-- ---- by name
+
+-- there is a choice of each list
+a_choice : (found : List Publication) → (chosen : Option Publication) × IsChoice found chosen
+a_choice [] = (None, refl)
+a_choice (p ∷ ps) = (Some p, (0, refl))
+
+-- what refuses the sender comes first, whatever was chosen
+sender_first : (n : NodeState) (port kind instance : ℕ) (importance : Importance) (body : List ℕ) (chosen : Option Publication) (why : Answer) → sender_refusal n port body ≡ Some why → (name_plan n port kind instance importance body chosen).refusal ≡ Some why
+sender_first n port kind instance importance body None why some = ap (λ (o : Option Answer). or_else o (Some answer.NoName)) some
+sender_first n port kind instance importance body (Some p) why some = ap (λ (o : Option Answer). or_else o (way_refusal n p.at.node (limit_of importance))) some
 
 pub name_refused_by : {E : Type 0} (r : Result Answer E) (n n' : NodeState) (by : By) (port kind instance : ℕ) (importance : Importance) (body : List ℕ) (box : Out) (why : Answer) (note : EventNote) → sender_refusal n port body ≡ Some why
-    → note ≡ SendName port kind instance importance body → IfOk r (λ a. (a ≡ why) × (n' ≡ recorded n by note [] why)) → IfOk r (IsNamedSend n n' by port kind instance importance body box box)
+    → note ≡ SendName port kind instance importance body → IfOk r (IsRefused n n' by note why) → IfOk r (IsPerformed n n' by (SendName port kind instance importance body) box box)
 name_refused_by r n n' by port kind instance importance body box why note some is ok =
-    IfOk-weaker r (λ a. (a ≡ why) × (n' ≡ recorded n by note [] why)) (IsNamedSend n n' by port kind instance importance body box box)
-    (λ a h. name_refused n n' by port kind instance importance body box why a some (h.0, h.1 ∙ ap (λ e. recorded n by e [] why) is)) ok
+    let c = a_choice (found_at n kind instance) in
+    performs_refused r n n' by (SendName port kind instance importance body) note c.0 box why c.1 (sender_first n port kind instance importance body c.0 why some) is ok
 
 pub name_unfound_by : {E : Type 0} (r : Result Answer E) (n n' : NodeState) (by : By) (port kind instance : ℕ) (importance : Importance) (body : List ℕ) (box : Out) (note : EventNote) → sender_refusal n port body ≡ None → found_at n kind instance ≡ []
-    → note ≡ SendName port kind instance importance body → IfOk r (λ a. (a ≡ answer.NoName) × (n' ≡ recorded n by note [] answer.NoName)) → IfOk r (IsNamedSend n n' by port kind instance importance body box box)
+    → note ≡ SendName port kind instance importance body → IfOk r (IsRefused n n' by note answer.NoName) → IfOk r (IsPerformed n n' by (SendName port kind instance importance body) box box)
 name_unfound_by r n n' by port kind instance importance body box note none empty is ok =
-    IfOk-weaker r (λ a. (a ≡ answer.NoName) × (n' ≡ recorded n by note [] answer.NoName)) (IsNamedSend n n' by port kind instance importance body box box)
-    (λ a h. name_unfound n n' by port kind instance importance body box a none empty (h.0, h.1 ∙ ap (λ e. recorded n by e [] answer.NoName) is)) ok
+    performs_refused r n n' by (SendName port kind instance importance body) note None box answer.NoName empty (ap (λ (o : Option Answer). or_else o (Some answer.NoName)) none) is ok
 
-pub call_alone : {E : Type 0} (r : Result Answer E) (n n' : NodeState) (by : By) (call note : EventNote) (box : Out) → call ≡ note → IfOk r (Performs n by note n' [])
-    → IfOk r (λ a. (frames : List Outgoing) × Performs n by call n' frames a × Adds box box frames)
-call_alone r n n' by call note box is ok =
-    IfOk-weaker r (Performs n by note n' []) (λ a. (frames : List Outgoing) × Performs n by call n' frames a × Adds box box frames)
-    (λ a h. ([], subst (λ e. Performs n by e n' [] a) (sym is) h, adds_none box)) ok
+-- it was answered, where it went its way or was refused there
+pub name_answered : (n n' : NodeState) (by : By) (port kind instance : ℕ) (importance : Importance) (body : List ℕ) (box box' : Out) (place : ℕ) (p : Publication) (note : EventNote) (m : Message) (limit : ℕ) (why : Option Answer) (answered : Answer)
+    → sender_refusal n port body ≡ None → slice_get (found_at n kind instance) place ≡ Some p → note ≡ SendName port kind instance importance body → m ≡ named n.own port p.at kind instance importance body → limit ≡ limit_of importance
+    → IsSentTo n n' by note m limit (answer.SentTo p.at) box box' why → unwrap_or why (answer.SentTo p.at) ≡ answered → IsPerformed n n' by (SendName port kind instance importance body) box box' answered
+name_answered n n' by port kind instance importance body box box' place p note m limit why answered none found noted message most sent is =
+    let call = SendName port kind instance importance body in
+    let h = sent_as n n' by call note (sender_refusal n port body) m (named n.own port p.at kind instance importance body) limit (limit_of importance) (answer.SentTo p.at) box box' why none noted message most sent in
+    subst (IsPerformed n n' by call box box') is (h.0, record { chosen = Some p; choice = (place, found); carried = h.1 }, h.2)
 
 -- ---- which match it went to
 
@@ -143,14 +112,3 @@ nothing (p ∷ ps) is = absurd (let zero = eqb-true (length (p ∷ ps)) 0 is in 
 pub something : (ps : List Publication) → length ps == 0 ≡ false → 1 ≤ length ps
 something [] is = absurd cc
 something (p ∷ ps) is = omega arith
-
--- a message by name was answered, where it went its way or was refused there
-pub name_answered : (n n' : NodeState) (by : By) (port kind instance : ℕ) (importance : Importance) (body : List ℕ) (box box' : Out) (place : ℕ) (p : Publication) (note : EventNote) (m : Message) (limit : ℕ) (why : Option Answer) (answered : Answer)
-    → sender_refusal n port body ≡ None → slice_get (found_at n kind instance) place ≡ Some p → note ≡ SendName port kind instance importance body → m ≡ named n.own port p.at kind instance importance body → limit ≡ limit_of importance
-    → IsSentTo n n' by note m limit (answer.SentTo p.at) box box' why → unwrap_or why (answer.SentTo p.at) ≡ answered → IsNamedSend n n' by port kind instance importance body box box' answered
-name_answered n n' by port kind instance importance body box box' place p note m limit why answered none found noted message most sent is =
-    subst (IsNamedSend n n' by port kind instance importance body box box') is
-    (name_sent n n' by port kind instance importance body box box' place p why none found
-    (subst (λ e. IsSentTo n n' by e (named n.own port p.at kind instance importance body) (limit_of importance) (answer.SentTo p.at) box box' why) noted
-    (subst (λ x. IsSentTo n n' by note x (limit_of importance) (answer.SentTo p.at) box box' why) message
-    (subst (λ k. IsSentTo n n' by note m k (answer.SentTo p.at) box box' why) most sent))))

@@ -2,7 +2,7 @@
 use Rattle.std.proofs.Common.{◌≡◌, ◌<◌, ℕ, Option, Some, None, Result, Ok, Err, refl, arith}
 use Rattle.std.specs.Prelude.{OnErr}
 use Rattle.std.proofs.lemmas.Bool.Decides.{nat_tests}
-use Rattle.tipc_node.specs.Calls.{link_refusal}
+use Rattle.tipc_node.specs.Plans.{link_refusal}
 
 -- there is a contact on whose link fewer packets than the limit wait
 abbrev pub HasPlace : Option (ℕ × ℕ) → ℕ → Type 0

@@ -20,11 +20,13 @@ use Rattle.tipc_pair.specs.Facing.{active, facing, in_contact}
 use Rattle.tipc_pair.specs.PairCalls.{load_of as link_load}
 use Rattle.tipc_sockets.specs.SocketTables.{SocketTable}
 use Rattle.tipc_node.specs.declared.neighbours.Neighbour.{Neighbour}
-use Rattle.tipc_node.specs.Calls.{GoesItsWay, SendsTo, link_refusal, way_refusal}
 use Rattle.tipc_node.specs.Messages.{destination_of}
-use Rattle.tipc_node.specs.Nodes.{NodeState, is_met, load_with, recorded, step_of}
+use Rattle.tipc_node.specs.Nodes.{NodeState, is_met, load_with, step_of}
+use Rattle.tipc_node.specs.Plans.{DoesUnless, GoesItsWay, link_refusal, message_plan, way_refusal}
+use Rattle.tipc_node.specs.Sockets.{kept_answer}
 use Rattle.tipc_node.specs.Works.{Puts, PutsOn, GivesFate, Work, addr_of_word, begun, concluded, neighbour_at, work_of}
 use Rattle.tipc_node.proofs.work.Making.{node_of}
+use Rattle.tipc_node.proofs.work.Planned.{IsCarried}
 use Rattle.tipc_pair.proofs.turns.PairPuts.{active_there}
 use Rattle.tipc_node.proofs.work.Refusals.{HasPlace, place_at}
 
@@ -79,40 +81,26 @@ way_met n m limit peer payload away clear named =
 
 -- it was sent to, and these frames left
 abbrev pub IsSentTo : NodeState → NodeState → By → EventNote → Message → ℕ → Answer → Out → Out → Option Answer → Type 0
-IsSentTo n n' by note m limit sent box box' why = (frames : List Outgoing) × SendsTo n n' by note m limit sent frames (unwrap_or why sent) × Adds box box' frames
+IsSentTo n n' by note m limit sent box box' why = IsCarried n n' by note (message_plan n None m limit sent) box box' (unwrap_or why sent)
 
-pub way_refused : (n n' : NodeState) (by : By) (note : EventNote) (m : Message) (limit : ℕ) (sent why answered : Answer) (box : Out) → way_refusal n (destination_of m) limit ≡ Some why → (answered ≡ why) × (n' ≡ recorded n by note [] why)
-    → IsSentTo n n' by note m limit sent box box (Some answered)
-way_refused n n' by note m limit _ why answered box some is = (
-  [],
-  record {
-    refused = λ reason there. (let same : why ≡ reason = (let both : Some why ≡ Some reason = sym some ∙ there in cc) in (is.1 ∙ ap (recorded n by note []) same, refl, is.0 ∙ same));
-    goes = λ none. absurd (let wrong : Some why ≡ None = sym some ∙ none in let bad : ⊥ = cc in bad);
-  },
-  adds_none box,
-)
-
-clear_way : (n n' : NodeState) (by : By) (note : EventNote) (m : Message) (limit : ℕ) (sent : Answer) (box box' : Out) (w : Work) (frames : List Outgoing) → way_refusal n (destination_of m) limit ≡ None → GoesItsWay n.own (begun n) m w frames
-    → n' ≡ concluded n by note w sent → Adds box box' frames → IsSentTo n n' by note m limit sent box box' None
-clear_way n n' by note m limit _ box box' w frames none goes after adds = (
+clear_way : (n n' : NodeState) (by : By) (note : EventNote) (m : Message) (limit : ℕ) (sent : Answer) (box box' : Out) (w : Work) (frames : List Outgoing) → kept_answer sent ≡ sent → way_refusal n (destination_of m) limit ≡ None
+    → GoesItsWay n.own (begun n) m w frames → n' ≡ concluded n by note w sent → Adds box box' frames → IsSentTo n n' by note m limit sent box box' None
+clear_way n n' by note m limit sent box box' w frames kept none goes after adds = (
   frames,
-  record {
-    refused = λ reason there. absurd (let wrong : None ≡ Some reason = sym none ∙ there in let bad : ⊥ = cc in bad);
-    goes = λ _. (w, goes, after, refl);
-  },
+  subst (λ (o : Option Answer). DoesUnless o n by note (message_plan n None m limit sent) n' frames sent) (sym none) (w, goes, after ∙ ap (concluded n by note w) (sym kept), refl),
   adds,
 )
 
-pub sent_home : (n n' : NodeState) (by : By) (note : EventNote) (m : Message) (limit : ℕ) (sent : Answer) (box : Out) → way_refusal n (destination_of m) limit ≡ None → comes_home (addr_of_word n.own) m ≡ true
+pub sent_home : (n n' : NodeState) (by : By) (note : EventNote) (m : Message) (limit : ℕ) (sent : Answer) (box : Out) → kept_answer sent ≡ sent → way_refusal n (destination_of m) limit ≡ None → comes_home (addr_of_word n.own) m ≡ true
     → ((w : Work) × GivesFate n.own (begun n) false m w [] × (n' ≡ concluded n by note w sent)) → IsSentTo n n' by note m limit sent box box None
-sent_home n n' by note m limit sent box none home h =
-    clear_way n n' by note m limit sent box box h.0 [] none (record { home = λ _. h.1; away = λ away. absurd (true≢false (sym home ∙ away)) }) h.2 (adds_none box)
+sent_home n n' by note m limit sent box kept none home h =
+    clear_way n n' by note m limit sent box box h.0 [] kept none (record { home = λ _. h.1; away = λ away. absurd (true≢false (sym home ∙ away)) }) h.2 (adds_none box)
 
-pub sent_away : (n n' : NodeState) (by : By) (note : EventNote) (m : Message) (limit peer : ℕ) (sent : Answer) (box box' : Out) → way_refusal n (destination_of m) limit ≡ None → comes_home (addr_of_word n.own) m ≡ false → (destination_of m).word ≡ node_word peer
+pub sent_away : (n n' : NodeState) (by : By) (note : EventNote) (m : Message) (limit peer : ℕ) (sent : Answer) (box box' : Out) → kept_answer sent ≡ sent → way_refusal n (destination_of m) limit ≡ None → comes_home (addr_of_word n.own) m ≡ false → (destination_of m).word ≡ node_word peer
     → ((w : Work) × (frames : List Outgoing) × Puts n.own (begun n) peer m w frames × (n' ≡ concluded n by note w sent) × Adds box box' frames) → IsSentTo n n' by note m limit sent box box' None
-sent_away n n' by note m limit peer sent box box' none away named h =
+sent_away n n' by note m limit peer sent box box' kept none away named h =
     let place : peer ≡ (destination_of m).word - node_word 0 = omega (arith, named) in
-    clear_way n n' by note m limit sent box box' h.0 h.1 none
+    clear_way n n' by note m limit sent box box' h.0 h.1 kept none
     (record { home = λ home. absurd (true≢false (sym home ∙ away)); away = λ _. subst (λ k. Puts n.own (begun n) k m h.0 h.1) place h.2 }) h.3 h.4
 
 -- ---- the node after it

@@ -96,7 +96,7 @@ turn_watched s air' a m m' bytes step frames sound was longer more past w told t
 
 -- an arrival isn't performed as a call
 never_arrives : (n n' : NodeState) (by : By) (call : EventNote) (frames : List Outgoing) (answered : Answer) → Performs n by call n' frames answered → (bearer number : ℕ) → call ≡ note.Arrive bearer number → ⊥
-never_arrives n n' by call frames answered h bearer number is = subst (λ c. Performs n by c n' frames answered) is h
+never_arrives n n' by call frames answered h bearer number is = (subst (λ c. Performs n by c n' frames answered) is h).choice
 
 make_watched : (s : Stage) (air' : AirState) (a : ℕ) (by : By) (call : EventNote) (m m' : MemberState) (frames : List Outgoing) (answered : Answer) → IsSound s.members s.air → GrowsAir s.air air' → slice_index_or s.members a None ≡ Some m
     → IsWatched s.air m → Makes by call m m' frames answered → IsWatched air' m'

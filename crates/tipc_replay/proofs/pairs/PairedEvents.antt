@@ -39,7 +39,7 @@ made_turn by call m m' frames answered h = record {
   told = h.turn.told_before;
   past = ap (λ (n : MemberState). n.past) h.after;
   bearer = 0;
-  on = λ k number is. absurd (subst (λ c. Performs m.node by c m'.node frames answered) is h.performs);
+  on = λ k number is. absurd (subst (λ c. Performs m.node by c m'.node frames answered) is h.performs).choice;
   counts = ap (λ (n : MemberState). n.counts) h.after;
 }
 

@@ -5,10 +5,12 @@ use Rattle.tipc_sockets.specs.SocketTables.{SocketTable}
 use Rattle.tipc_node.specs.contracts.cores.Core.{the_view}
 use Rattle.tipc_node.specs.Drafts.{DraftState}
 use Rattle.tipc_node.specs.Nodes.{NodeState, step_of}
+use Rattle.tipc_node.specs.Plans.{names_plan}
 use Rattle.tipc_node.specs.Sockets.{crowd_refusal, with_names_changed}
 use Rattle.tipc_node.specs.Works.{work_of}
-use Rattle.tipc_node.proofs.work.Announcing.{IsAnnounced, announced, announced_crowded, shared_drafted}
+use Rattle.tipc_node.proofs.work.Announcing.{IsAnnounced, announced, shared_drafted}
 use Rattle.tipc_node.proofs.work.Making.{node_of}
+use Rattle.tipc_node.proofs.work.Planned.{refused_by}
 use Rattle.tipc_node.proofs.cores.Core.announce.Goals as goal
 
 pub returns-in-Some-clause-ok : goal.returns-in-Some-clause-ok
@@ -17,7 +19,7 @@ returns-in-Some-clause-ok c =
     let a = c.args in
     let crowd : crowd_refusal n.neighbours a.told.now ≡ Some c.in-Some.why =
     ap (λ (z : NodeState). crowd_refusal z.neighbours a.told.now) (sym c.self.view_is) ∙ ap (λ xs. crowd_refusal xs a.told.now) (sym c.neighbours.ensures.value) ∙ sym c.crowd_refusal.ensures ∙ c.in-Some.is in
-    announced_crowded c.refuse.result n c.refuse.new.self a.by a.note None (work_of n.neighbours (with_names_changed n.sockets a.change) a.inside.items) a.told.now a.out.now c.in-Some.why refl crowd c.refuse.ensures.ok
+    refused_by c.refuse.result n c.refuse.new.self a.by a.note (names_plan n None (work_of n.neighbours (with_names_changed n.sockets a.change) a.inside.items) a.told.now) a.out.now c.in-Some.why crowd c.refuse.ensures.ok
 
 pub returns-clause-ok : goal.returns-clause-ok
 returns-clause-ok c =
@@ -31,7 +33,7 @@ returns-clause-ok c =
     let clear : crowd_refusal k.neighbours told ≡ None = ap (λ xs. crowd_refusal xs told) (sym c.neighbours.ensures.value) ∙ sym c.crowd_refusal.ensures ∙ c.in_default.is in
     let changed = ap (λ (z : DraftState). z.work.sockets) c.in-Ok.ensures.ok ∙ ap (λ (t : SocketTable). with_names_changed t a.change) c.share.ensures.sockets in
     subst (λ (z : NodeState). IsAnnounced z (node_of k last.neighbours last.sockets journal) a.by a.note None (work_of z.neighbours (with_names_changed z.sockets a.change) es) told a.out.now c.conclude.new.out answer.Done) c.self.view_is
-    (announced k a.by a.note None (work_of k.neighbours (with_names_changed k.sockets a.change) es) es told told last.neighbours last.sockets e.work.inside journal e.out a.out.now c.conclude.new.out refl clear refl refl refl
+    (announced k a.by a.note (work_of k.neighbours (with_names_changed k.sockets a.change) es) es told told last.neighbours last.sockets e.work.inside journal e.out a.out.now c.conclude.new.out clear refl refl refl
     (c.conclude.ensures.sockets ∙ changed)
     (shared_drafted k a.by a.note c.self.inside.draft c.share.new.self e es told last.neighbours journal a.out.now c.conclude.new.out (record {
       own = c.self.invariant.2;

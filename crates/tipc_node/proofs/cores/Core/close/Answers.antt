@@ -1,6 +1,7 @@
-use Rattle.std.proofs.Common.{◌≡◌, ◌∙◌, List, None, Some, ap, arith, filter, length, map, sum_by, sym, true}
+use Rattle.std.proofs.Common.{◌≡◌, ◌∙◌, List, None, Option, Some, ap, arith, filter, length, map, refl, sum_by, sym, true}
 use Rattle.std.proofs.lemmas.List.{length-map}
 use Rattle.tipc_types.specs.declared.message_forms.Message.{Message}
+use Rattle.tipc_types.specs.declared.node_calls.Answer.{Answer}
 use Rattle.tipc_types.specs.declared.node_calls.Answer.TheVariants as answer
 use Rattle.tipc_types.specs.declared.node_calls.EventNote.TheVariants.{Close}
 use Rattle.tipc_types.specs.declared.services.Publication.{Publication}
@@ -11,10 +12,12 @@ use Rattle.tipc_name_dist.specs.Items.{tellings}
 use Rattle.tipc_sockets.specs.Publishing.{closed, is_at}
 use Rattle.tipc_sockets.specs.SocketTables.{SocketTable, has_port}
 use Rattle.tipc_node.specs.Nodes.{NodeState}
-use Rattle.tipc_node.specs.Sockets.{closed_work, port_refusal, told_closing}
+use Rattle.tipc_node.specs.Plans.{or_else}
+use Rattle.tipc_node.specs.Sockets.{closed_work, crowd_refusal, port_refusal, told_closing}
 use Rattle.tipc_node.specs.Works.{work_of}
-use Rattle.tipc_node.proofs.work.Announcing.{announced_as, announced_refused}
+use Rattle.tipc_node.proofs.work.Announcing.{announced_as}
 use Rattle.tipc_node.proofs.work.Answering.{at_few, port_gone, port_there, withdrawals_light}
+use Rattle.tipc_node.proofs.work.Planned.{performed, performs_refused}
 use Rattle.tipc_node.proofs.cores.Core.close.Goals as goal
 
 pub returns-then-not-has-clause-ok : goal.returns-then-not-has-clause-ok
@@ -22,7 +25,7 @@ returns-then-not-has-clause-ok c =
     let n = c.args.self.now in
     let a = c.args in
     let gone : port_refusal n.sockets a.port ≡ Some answer.NoSocket = ap (λ (z : NodeState). port_refusal z.sockets a.port) (sym c.self.view_is) ∙ port_gone c.self.inside.draft.work.sockets a.port (ap (λ (t : SocketTable). has_port t a.port) (sym c.sockets.ensures) ∙ sym c.has.ensures ∙ c.if-not-has.true) in
-    announced_refused c.refuse.result n c.refuse.new.self a.by (Close a.port) (port_refusal n.sockets a.port) (closed_work n a.port) (told_closing n.sockets a.port) a.out.now answer.NoSocket gone c.refuse.ensures.ok
+    performs_refused c.refuse.result n c.refuse.new.self a.by (Close a.port) (Close a.port) None a.out.now answer.NoSocket refl (ap (λ (o : Option Answer). or_else o (crowd_refusal n.neighbours (told_closing n.sockets a.port))) gone) refl c.refuse.ensures.ok
 
 pub announce-requires-clause-can : goal.announce-requires-clause-can
 announce-requires-clause-can c =
@@ -54,8 +57,9 @@ returns-clause-ok c =
     let a = c.args in
     let none : port_refusal n.sockets a.port ≡ None = ap (λ (z : NodeState). port_refusal z.sockets a.port) (sym c.self.view_is) ∙ port_there c.self.inside.draft.work.sockets a.port (ap (λ (t : SocketTable). has_port t a.port) (sym c.sockets.ensures) ∙ sym c.has.ensures ∙ c.if-not-has.false) in
     let live = c.in_ok-those.ensures ∙ ap (λ (t : SocketTable). filter (is_at a.port) t.live) c.sockets-2.ensures ∙ ap (λ (z : NodeState). filter (is_at a.port) z.sockets.live) c.self.view_is in
-    announced_as c.announce.result n c.announce.new.self a.by (Close a.port) (port_refusal n.sockets a.port) (work_of n.neighbours (closed n.sockets a.port) c.in_ok-inside.inside.items) (closed_work n a.port)
+    performed c.announce.result n c.announce.new.self a.by (Close a.port) None a.out.now c.announce.new.out refl
+    (announced_as c.announce.result n c.announce.new.self a.by (Close a.port) (port_refusal n.sockets a.port) (work_of n.neighbours (closed n.sockets a.port) c.in_ok-inside.inside.items) (closed_work n a.port)
     c.as_slice-3.result.now (told_closing n.sockets a.port) a.out.now c.announce.new.out none
     (ap (work_of n.neighbours (closed n.sockets a.port)) (c.in_ok-inside.ensures ∙ ap (map Withdrawn) (c.as_slice-2.ensures ∙ live)))
     (c.as_slice-3.ensures.value ∙ c.in_ok-told.ensures.value ∙ ap (tellings true) (c.as_slice.ensures ∙ live))
-    c.announce.ensures.ok
+    c.announce.ensures.ok)

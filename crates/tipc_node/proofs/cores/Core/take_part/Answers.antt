@@ -8,11 +8,12 @@ use Rattle.tipc_journal.specs.Steps.{step_entries}
 use Rattle.tipc_ports.specs.Numbers.{PortTable}
 use Rattle.tipc_sockets.specs.Telling.{after_entry}
 use Rattle.tipc_node.specs.contracts.cores.Core.{the_view}
-use Rattle.tipc_node.specs.Calls.{upkeep_work}
+use Rattle.tipc_node.specs.Calls.{upkeep_plan, upkeep_work}
 use Rattle.tipc_node.specs.Drafts.{DraftState}
 use Rattle.tipc_node.specs.Finding.{requests_by}
-use Rattle.tipc_node.specs.Nodes.{NodeState, after_all, upkeep_note, entries_all, is_change, made_all, mended_by, numbered_all, states_all, step_of, with_mended}
-use Rattle.tipc_node.specs.Works.{concluded, work_of}
+use Rattle.tipc_node.specs.Nodes.{NodeState, after_all, upkeep_note, entries_all, is_change, made_all, numbered_all, states_all, step_of}
+use Rattle.tipc_node.specs.Plans.{concluded_by}
+use Rattle.tipc_node.specs.Works.{work_of}
 use Rattle.tipc_node.proofs.work.Changes.{all_changes, same_folded}
 use Rattle.tipc_node.proofs.work.Drafting.{idle_work}
 use Rattle.tipc_node.proofs.turns.Parts.{all_nobody, all_wide, asked_made}
@@ -80,7 +81,7 @@ returns-clause-ok c =
       (
         takes_from n c.args.by d c.mended_by-self-inside.result last.neighbours last.sockets c.record.new.journal.entries c.mended_by-self-inside.ensures
             (ap (λ (z : DraftState). z.work.neighbours) set ∙ c.in_ok-after.ensures.after ∙ ap (after_all d) read) sockets recorded_is
-            ∙ ap (λ (m : NodeState). concluded (with_mended m (mended_by d m.mended)) c.args.by (upkeep_note d) (upkeep_work d m) answer.Done) c.self.view_is,
+            ∙ ap (λ (m : NodeState). concluded_by m c.args.by (upkeep_note d) (upkeep_plan m d) (upkeep_work d m)) c.self.view_is,
         ap (λ xs. (states_all d xs ++ asked) ++ numbered_all d xs) there,
         refl,
       ),

@@ -12,11 +12,12 @@ use Rattle.tipc_sockets.specs.Telling.{after_entry}
 use Rattle.tipc_node.specs.declared.neighbours.Upkeep.TheVariants as upkeep
 use Rattle.tipc_topology.specs.Changing.{due}
 use Rattle.tipc_node.specs.contracts.cores.Core.{the_view}
-use Rattle.tipc_node.specs.Calls.{tick_work}
+use Rattle.tipc_node.specs.Calls.{tick_plan, tick_work}
 use Rattle.tipc_node.specs.Drafts.{DraftState}
-use Rattle.tipc_node.specs.Finding.{requests_by, with_tick}
+use Rattle.tipc_node.specs.Finding.{requests_by}
 use Rattle.tipc_node.specs.Nodes.{NodeState, after_all, entries_all, is_change, made_all, numbered_all, states_all, step_of}
-use Rattle.tipc_node.specs.Works.{concluded, work_of}
+use Rattle.tipc_node.specs.Plans.{concluded_by}
+use Rattle.tipc_node.specs.Works.{work_of}
 use Rattle.tipc_node.proofs.work.Changes.{all_changes, same_folded}
 use Rattle.tipc_node.proofs.work.Drafting.{idle_work}
 use Rattle.tipc_node.proofs.turns.Parts.{all_nobody, all_wide, asked_made}
@@ -91,7 +92,7 @@ returns-clause-ok c =
         ticks_from n c.args.by c.next_tick-self-inside.result last.neighbours between.sockets last.sockets c.record.new.journal.entries c.next_tick-self-inside.ensures.value
             (ap (λ (z : DraftState). z.work.neighbours) c.pass.ensures ∙ ap (λ (z : DraftState). z.work.neighbours) set ∙ c.in_ok-after.ensures.after ∙ ap (after_all upkeep.Tick) read)
             sockets (ap (λ (z : DraftState). z.work.sockets) c.pass.ensures) recorded_is
-            ∙ ap (λ (m : NodeState). concluded (with_tick m) c.args.by event.Tick (tick_work m) answer.Done) c.self.view_is,
+            ∙ ap (λ (m : NodeState). concluded_by m c.args.by event.Tick (tick_plan m) (tick_work m)) c.self.view_is,
         ap (λ xs. (states_all upkeep.Tick xs ++ asked) ++ numbered_all upkeep.Tick xs) there,
         refl,
       ),
