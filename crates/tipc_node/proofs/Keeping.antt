@@ -15,7 +15,7 @@ use Rattle.tipc_journal.specs.Licensed.{IsPicked, IsPickedOf}
 use Rattle.tipc_sockets.specs.SocketTables.{AreSockets}
 use Rattle.tipc_node.specs.Arrivals.{Arrived, Arrives}
 use Rattle.tipc_node.specs.Calls.{CanPerform, HasInstances, IsPickedFrom, Performed, Performs}
-use Rattle.tipc_node.specs.Finding.{AreFound}
+use Rattle.tipc_node.specs.Discovery.{AreFound}
 use Rattle.tipc_node.specs.Nodes.{NodeState}
 use Rattle.tipc_node.specs.Sharing.{SharesNames}
 use Rattle.tipc_node.specs.Sockets.{kept_answer}

@@ -11,7 +11,7 @@ use Rattle.tipc_outside.specs.declared.outgoing.Outgoing.{Outgoing}
 use Rattle.tipc_sockets.specs.SocketTables.{AreSockets, no_sockets}
 use Rattle.tipc_node.specs.Arrivals.{Arrives}
 use Rattle.tipc_node.specs.Calls.{CallTurn, CanPerform, HasInstances, Performs}
-use Rattle.tipc_node.specs.Finding.{AreFound, nobody_heard}
+use Rattle.tipc_node.specs.Discovery.{AreFound, nobody_heard}
 use Rattle.tipc_node.specs.Nodes.{NodeState, neighbour_of, step_of}
 use Rattle.tipc_node.specs.Sharing.{SharesNames}
 use Rattle.tipc_node.specs.Sockets.{kept_answer}
@@ -20,7 +20,7 @@ use Rattle.tipc_node.specs.Turns.{AreNamed}
 use Rattle.tipc_node.proofs.journal.ArrivalTold.{arrives_told}
 use Rattle.tipc_node.proofs.turns.Arrivals.{arrives_turn}
 use Rattle.tipc_node.proofs.journal.FirstTold.{new_told}
-use Rattle.tipc_node.proofs.turns.Finding.{boot_low}
+use Rattle.tipc_node.proofs.turns.Discovery.{boot_low}
 use Rattle.tipc_node.proofs.turns.FoundKept.{arrives_found, new_are_found, performs_found}
 use Rattle.tipc_node.proofs.turns.Named.{IsBoot, new_named, turn_named}
 use Rattle.tipc_node.proofs.pairs.Packed.{new_packed, turn_packed}

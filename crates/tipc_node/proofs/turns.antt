@@ -2,7 +2,7 @@
 pub mod Arrivals
 pub mod Discovering
 pub mod Entries
-pub mod Finding
+pub mod Discovery
 pub mod FoundKept
 pub mod MessageRuns
 pub mod Named

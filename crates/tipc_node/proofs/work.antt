@@ -6,7 +6,7 @@ pub mod Changes
 pub mod Deliveries
 pub mod Delivering
 pub mod Drafting
-pub mod Finding
+pub mod Discovery
 pub mod Greeting
 pub mod Heard
 pub mod Hearings

@@ -23,7 +23,7 @@ use Rattle.tipc_pair.specs.Courses.{sent_in}
 use Rattle.tipc_pair.specs.PairTurns.{Outset}
 use Rattle.tipc_node.specs.declared.neighbours.Neighbour.{Neighbour}
 use Rattle.tipc_node.specs.Calls.{CallTurn}
-use Rattle.tipc_node.specs.Finding.{discovered_frames, discovered_node, responses}
+use Rattle.tipc_node.specs.Discovery.{discovered_frames, discovered_node, responses}
 use Rattle.tipc_node.specs.Neighbours.{HearsAt, answered_neighbour, answering, heard_neighbour}
 use Rattle.tipc_pair.specs.Contacts.{begins}
 use Rattle.tipc_node.specs.Nodes.{NodeState, arrival_answer, arrival_deliveries, change_entries, end_with, is_other, neighbour_of, recorded, stop_of, stopped_node}

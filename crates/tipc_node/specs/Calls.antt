@@ -17,7 +17,7 @@ use Rattle.tipc_sockets.specs.Publishing.{own_publication}
 use Rattle.tipc_sockets.specs.SocketTables.{has_port, with_socket}
 use Rattle.tipc_node.specs.declared.neighbours.Upkeep.{Upkeep}
 use Rattle.tipc_node.specs.declared.neighbours.Upkeep.TheVariants as upkeep
-use Rattle.tipc_node.specs.Finding.{AreFound, next_tick, upkeep_frames}
+use Rattle.tipc_node.specs.Discovery.{AreFound, next_tick, upkeep_frames}
 use Rattle.tipc_node.specs.Messages.{direct, limit_of, named}
 use Rattle.tipc_node.specs.Nodes.{NodeState, after_all, entries_all, mended_by, step_of}
 use Rattle.tipc_node.specs.Plans.{CarriesOut, Plan, frames_alone, message_plan, names_plan, or_else, tables_plan}

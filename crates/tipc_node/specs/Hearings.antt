@@ -17,10 +17,10 @@ use Rattle.tipc_pair.specs.Courses.{sent_in}
 use Rattle.tipc_pair.specs.PairTurns.{Outset}
 use Rattle.tipc_pair.specs.Preparing.{Prepares, changes_of}
 use Rattle.tipc_sockets.specs.SocketTables.{SocketTable}
-use Rattle.tipc_node.specs.declared.arriving.Delivery.{Delivery}
-use Rattle.tipc_node.specs.declared.arriving.Due.{Due}
-use Rattle.tipc_node.specs.declared.arriving.Hearing.{Hearing}
-use Rattle.tipc_node.specs.declared.listening.HeardPacket.{HeardPacket}
+use Rattle.tipc_node.specs.declared.frames.Delivery.{Delivery}
+use Rattle.tipc_node.specs.declared.frames.Due.{Due}
+use Rattle.tipc_node.specs.declared.frames.Hearing.{Hearing}
+use Rattle.tipc_node.specs.declared.packets.HeardPacket.{HeardPacket}
 use Rattle.tipc_node.specs.declared.neighbours.Neighbour.{Neighbour}
 use Rattle.tipc_node.specs.Arrivals.{BringsDiscovery, Discovers, Greets, Hears, IsDue, answered_work}
 use Rattle.tipc_journal.specs.Room.{free_entries}

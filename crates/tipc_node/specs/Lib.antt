@@ -1,7 +1,7 @@
 pub mod Arrivals
 pub mod Calls
 pub mod Drafts
-pub mod Finding
+pub mod Discovery
 pub mod Hearings
 pub mod Messages
 pub mod Neighbours

@@ -21,8 +21,8 @@ use Rattle.tipc_sockets.specs.declared.publishing.PublishFault.TheVariants as fa
 use Rattle.tipc_sockets.specs.Publishing.{closed, is_at, own_publication, published, published_at, publish_refusal, withdrawn}
 use Rattle.tipc_sockets.specs.SocketTables.{has_port, queue_at, with_first_taken, with_queues, with_watchers, SocketTable}
 use Rattle.tipc_node.specs.declared.neighbours.Neighbour.{Neighbour}
-use Rattle.tipc_node.specs.declared.serving.NameChange.{NameChange}
-use Rattle.tipc_node.specs.declared.serving.NameChange.TheVariants as change
+use Rattle.tipc_node.specs.declared.calls.NameChange.{NameChange}
+use Rattle.tipc_node.specs.declared.calls.NameChange.TheVariants as change
 use Rattle.tipc_node.specs.Nodes.{NodeState, load_with, waiting_in}
 use Rattle.tipc_node.specs.Works.{Work, begun, noted}
 

@@ -6,7 +6,7 @@ use Rattle.tipc_journal.specs.declared.entries.Entry.{Entry}
 use Rattle.tipc_journal.specs.declared.entries.Entry.TheVariants.{Queued}
 use Rattle.tipc_sockets.specs.Fates.{port_of, surely_waits, with_waiting}
 use Rattle.tipc_sockets.specs.SocketTables.{SocketTable}
-use Rattle.tipc_node.specs.declared.arriving.Delivery.{Delivery}
+use Rattle.tipc_node.specs.declared.frames.Delivery.{Delivery}
 
 -- whether the message of a delivery surely waits, as the last of so many
 abbrev pub waits_surely : SocketTable → ℕ → Option Message → Bool

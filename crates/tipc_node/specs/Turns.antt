@@ -29,7 +29,7 @@ use Rattle.tipc_pair.specs.Facing.{PairEnds}
 use Rattle.tipc_pair.specs.Messages.{opened_in}
 use Rattle.tipc_pair.specs.PairTurns.{MakesNew, Opening, PairTurn, Reply, ShowsAtLast, ShowsIn, Suits, IsOnOne, IsTakenBy}
 use Rattle.tipc_pair.specs.PairTurns.Opening.{hears, makes}
-use Rattle.tipc_node.specs.Finding.{discovery_frame}
+use Rattle.tipc_node.specs.Discovery.{discovery_frame}
 use Rattle.tipc_node.specs.Messages.{IsSendable, bytes_of, message_in}
 use Rattle.tipc_node.specs.Nodes.{NodeState, accepted_entry, change_entries, is_other, neighbour_of, pair_with, shown_contact}
 use Rattle.tipc_pair.specs.Addressed.{Names}

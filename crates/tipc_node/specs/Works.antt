@@ -22,7 +22,7 @@ use Rattle.tipc_sockets.specs.declared.fates.Fate.TheVariants.{Returned}
 use Rattle.tipc_sockets.specs.Fates.{after_fate, fate}
 use Rattle.tipc_sockets.specs.SocketTables.{SocketTable}
 use Rattle.tipc_sockets.specs.Telling.{after_entry, fate_entry, origin_of}
-use Rattle.tipc_node.specs.declared.arriving.Delivery.{Delivery}
+use Rattle.tipc_node.specs.declared.frames.Delivery.{Delivery}
 use Rattle.tipc_node.specs.declared.neighbours.Neighbour.{Neighbour}
 use Rattle.tipc_node.specs.Messages.{IsSendable, bytes_of, destination_of}
 use Rattle.tipc_node.specs.Neighbours.{PutsThere}

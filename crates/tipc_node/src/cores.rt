@@ -7,19 +7,19 @@ ghost use Rattle.tipc_outside.specs.declared.outgoing.Outgoing.{Outgoing};
 ghost use Rattle.tipc_journal.specs.Counting.{is_sent_by_name};
 ghost use Rattle.tipc_sockets.specs.SocketTables.{AreSockets, no_sockets};
 ghost use Rattle.tipc_node.specs.Calls.{CanPerform, IsPickedFrom, Performs, tick_plan, upkeep_plan};
-ghost use Rattle.tipc_node.specs.Finding.{nobody_heard};
+ghost use Rattle.tipc_node.specs.Discovery.{nobody_heard};
 ghost use Rattle.tipc_node.specs.Neighbours.{IsOnBearer};
 ghost use Rattle.tipc_node.specs.Nodes.{is_mended_on, node_load, neighbour_of, recorded, upkeep_note};
 ghost use Rattle.tipc_node.specs.Plans.{CarriesOut};
 ghost use Rattle.tipc_journal.specs.Room.{has_journal_room};
 
+use crate::discovery::next_tick;
 use crate::drafts::Draft;
-use crate::finding::next_tick;
 use crate::neighbours::{
     Bearers, Neighbour, Parting, Upkeep, is_mended_on, load_all, mended_by, part_of_all,
     upkeep_note,
 };
-use crate::recording::{NodeFault, has_journal_room, note_timeouts, record};
+use crate::steps::{NodeFault, has_journal_room, note_timeouts, record};
 use std::alloc::Global;
 use std::marker::Model;
 use tipc_discovery::Neighbours;

@@ -15,10 +15,10 @@ ghost use Rattle.tipc_node.specs.Drafts.{own_of, restored, start_of, with_copy, 
 ghost use Rattle.tipc_node.specs.Nodes.{is_change, step_of};
 ghost use Rattle.tipc_node.specs.Works.{work_of};
 
-use crate::arriving::fits;
+use crate::fates::purge_ended;
+use crate::frames::fits;
 use crate::neighbours::{NUMBERS, Neighbour};
-use crate::recording::record;
-use crate::settling::purge_ended;
+use crate::steps::record;
 use std::alloc::Global;
 use std::marker::Model;
 use std::mem::replace;

@@ -1,37 +1,37 @@
 //! One node: its neighbours, its sockets and its journal. Each call is one step of the journal.
 //!
-//! - Calls: `nodes` (the node, and what it promises), `cores` (its parts, each call, ticks and bearers).
-//! - Names: `serving` (calls on sockets, names and subscriptions), `sharing` (what peers are told), `items` (what a
-//!   peer tells).
-//! - Sends: `posting` (the calls that send), `sending` (messages, limits, packets).
-//! - Discovery: `finding` (who is there is asked and answered, and a peer that is new gets its link end).
-//! - Arrivals: `arriving` (what a frame is, and what it delivers), `hearing` (what an arrival makes of a node),
-//!   `listening` (what a peer's packet makes of what is kept of the peer), `following` (what follows from it),
-//!   `waiting` (where each message surely waits).
-//! - Fates: `settling` (a message's fate, or its way on a link), `delivery` (one fate after the other).
-//! - The step: `drafts` (what a node works on), `recording` (how it is recorded), `neighbours` (the peers, and what a
-//!   call does at each).
+//! - The node: `nodes` (what it is, and what it promises), `cores` (its parts, ticks and bearers).
+//! - Calls: `calls` (on sockets, names and subscriptions), `sends` (those that send a message).
+//! - Names: `tellings` (what peers are told), `items` (what a peer tells).
+//! - Sends: `messages` (what a user sends, its limits, its packets).
+//! - Discovery: `discovery` (who is there is asked and answered, and a peer that is new gets its link end).
+//! - Arrivals: `frames` (what a frame is, and what it delivers), `arrivals` (what an arrival makes of a node), `packets`
+//!   (what a peer's packet makes of what is kept of the peer), `consequences` (what follows from it), `deliveries` (what
+//!   was delivered, one after the other), `sure` (the same where each message surely waits).
+//! - Fates: `fates` (a message's fate, or its way on a link).
+//! - The step: `drafts` (what a node works on), `steps` (how it is recorded), `neighbours` (the peers, and what a call
+//!   does at each).
 #![tactic(auto)]
 
-mod arriving;
+mod arrivals;
+mod calls;
+mod consequences;
 mod cores;
-mod delivery;
+mod deliveries;
+mod discovery;
 mod drafts;
-mod finding;
-mod following;
-mod hearing;
+mod fates;
+mod frames;
 mod items;
-mod listening;
+mod messages;
 mod neighbours;
 mod nodes;
-mod posting;
-mod recording;
-mod sending;
-mod serving;
-mod settling;
-mod sharing;
-mod waiting;
+mod packets;
+mod sends;
+mod steps;
+mod sure;
+mod tellings;
 
 pub use neighbours::Neighbour;
 pub use nodes::Node;
-pub use recording::NodeFault;
+pub use steps::NodeFault;

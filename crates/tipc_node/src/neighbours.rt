@@ -14,7 +14,7 @@ ghost use Rattle.tipc_node.specs.Nodes.{accepted_entry, after_all, after_one, up
 ghost use Rattle.tipc_node.specs.Neighbours.{course_of, done, making, neighbour, no_broadcast, stays_in_step, stranger, IsOnBearer, PutsThere};
 ghost use Rattle.tipc_pair.specs.Contacts.{is_of_contact};
 
-use crate::recording::note_changes;
+use crate::steps::note_changes;
 use std::alloc::Global;
 use tipc_journal::Entry;
 use tipc_outside::Outbox;

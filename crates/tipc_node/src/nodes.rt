@@ -11,7 +11,7 @@ ghost use Rattle.tipc_pair.specs.PairCalls.{numbered_of};
 ghost use Rattle.tipc_sockets.specs.SocketTables.{no_sockets, queue_at};
 ghost use Rattle.tipc_node.specs.Arrivals.{Arrived};
 ghost use Rattle.tipc_node.specs.Calls.{CanPerform, HasInstances, Performed};
-ghost use Rattle.tipc_node.specs.Finding.{nobody_heard};
+ghost use Rattle.tipc_node.specs.Discovery.{nobody_heard};
 ghost use Rattle.tipc_node.specs.Nodes.{contact_with, end_with, is_mended_on, node_load, neighbour_of};
 ghost use Rattle.tipc_journal.specs.Room.{has_journal_room};
 ghost use Rattle.tipc_node.specs.Sharing.{SharesNames};
@@ -19,7 +19,7 @@ ghost use Rattle.tipc_node.specs.Telling.{IsTold};
 
 use crate::cores::Core;
 use crate::neighbours::Neighbour;
-use crate::recording::{NodeFault, has_journal_room};
+use crate::steps::{NodeFault, has_journal_room};
 use std::alloc::Global;
 use std::marker::Model;
 use tipc_journal::{Entry, Journal};
@@ -36,7 +36,7 @@ pub struct Node {
 }
 
 impl Model for Node {
-    ghost use Rattle.tipc_node.specs.Finding.{AreFound};
+    ghost use Rattle.tipc_node.specs.Discovery.{AreFound};
     ghost use Rattle.tipc_node.specs.Nodes.{NodeState};
     ghost use Rattle.tipc_node.specs.Sharing.{SharesNames};
     ghost use Rattle.tipc_node.specs.Telling.{ArePacked, IsTold};

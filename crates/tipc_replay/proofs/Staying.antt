@@ -6,7 +6,7 @@ use Rattle.tipc_types.specs.declared.node_calls.Answer.{Answer}
 use Rattle.tipc_types.specs.declared.node_calls.By.{By}
 use Rattle.tipc_replay.specs.declared.events.WorldEvent.{WorldEvent}
 use Rattle.tipc_replay.specs.declared.events.WorldEvent.TheVariants.{Restart, Call, Arrive}
-use Rattle.tipc_node.specs.declared.recording.NodeFault.{NodeFault}
+use Rattle.tipc_node.specs.declared.steps.NodeFault.{NodeFault}
 use Rattle.tipc_replay.specs.declared.replays.Happened.{Happened}
 use Rattle.tipc_replay.specs.Calls.{node_of}
 use Rattle.tipc_replay.specs.Due.{unarrived}

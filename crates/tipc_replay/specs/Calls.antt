@@ -5,8 +5,8 @@ use Rattle.tipc_types.specs.declared.node_calls.EventNote.TheVariants as note
 use Rattle.tipc_journal.specs.Room.{has_journal_room}
 use Rattle.tipc_node.specs.Calls.{CanPerform}
 use Rattle.tipc_node.specs.Nodes.{NodeState}
-use Rattle.tipc_node.specs.declared.recording.NodeFault.{NodeFault}
-use Rattle.tipc_node.specs.declared.recording.NodeFault.TheVariants.{JournalFull, NoMemory}
+use Rattle.tipc_node.specs.declared.steps.NodeFault.{NodeFault}
+use Rattle.tipc_node.specs.declared.steps.NodeFault.TheVariants.{JournalFull, NoMemory}
 use Rattle.tipc_replay.specs.declared.events.WorldEvent.{WorldEvent}
 use Rattle.tipc_replay.specs.declared.events.WorldEvent.TheVariants.{Restart, Call, Arrive}
 use Rattle.tipc_replay.specs.Due.{unarrived}

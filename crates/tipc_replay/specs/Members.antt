@@ -7,7 +7,7 @@ use Rattle.tipc_header.specs.Reading.{word_at}
 use Rattle.tipc_link.specs.Links.{LinkEnd}
 use Rattle.tipc_link.specs.Sessions.{SessionEnd}
 use Rattle.tipc_sockets.specs.SocketTables.{no_sockets}
-use Rattle.tipc_node.specs.Finding.{nobody_heard}
+use Rattle.tipc_node.specs.Discovery.{nobody_heard}
 use Rattle.tipc_node.specs.Nodes.{NodeState, neighbour_of}
 use Rattle.tipc_node.specs.Sharing.{SharesNames}
 use Rattle.tipc_node.specs.Telling.{IsTold}

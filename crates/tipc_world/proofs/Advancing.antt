@@ -7,8 +7,8 @@ use Rattle.tipc_types.specs.declared.node_calls.By.{By}
 use Rattle.tipc_replay.specs.Skies.{air_size}
 use Rattle.tipc_replay.specs.declared.events.WorldEvent.{WorldEvent}
 use Rattle.tipc_replay.specs.Calls.{counts_at, has_room_at, is_call_at, is_recorded, node_of, CallStops}
-use Rattle.tipc_node.specs.declared.recording.NodeFault.{NodeFault}
-use Rattle.tipc_node.specs.declared.recording.NodeFault.TheVariants.{JournalFull, NoMemory}
+use Rattle.tipc_node.specs.declared.steps.NodeFault.{NodeFault}
+use Rattle.tipc_node.specs.declared.steps.NodeFault.TheVariants.{JournalFull, NoMemory}
 use Rattle.tipc_world.specs.Events.{fault_of}
 use Rattle.tipc_replay.specs.Sound.{IsNumber}
 use Rattle.tipc_replay.specs.States.{MemberState, ReplayState}

@@ -1,7 +1,7 @@
 -- What an event needs in a world, and what it counts for there.
 use Rattle.std.specs.Prelude.{Bool}
-use Rattle.tipc_node.specs.declared.recording.NodeFault.{NodeFault}
-use Rattle.tipc_node.specs.declared.recording.NodeFault.TheVariants.{JournalFull, NoMemory}
+use Rattle.tipc_node.specs.declared.steps.NodeFault.{NodeFault}
+use Rattle.tipc_node.specs.declared.steps.NodeFault.TheVariants.{JournalFull, NoMemory}
 use Rattle.tipc_replay.specs.declared.events.WorldEvent.{WorldEvent}
 use Rattle.tipc_replay.specs.Calls.{counts_at, is_call_at, CanHappenAt}
 use Rattle.tipc_world.specs.declared.faults.Limit.TheVariants as limit

@@ -49,7 +49,7 @@ impl From<AllocError> for WorldFault {
 impl From<NodeFault> for WorldFault {
     ghost use Rattle.tipc_world.specs.declared.faults.Limit.{Limit};
     ghost use Rattle.tipc_world.specs.declared.faults.WorldFault.{WorldFault};
-    ghost use Rattle.tipc_node.specs.declared.recording.NodeFault.{NodeFault};
+    ghost use Rattle.tipc_node.specs.declared.steps.NodeFault.{NodeFault};
     ghost use Rattle.tipc_world.specs.Events.{fault_of};
 
     ghost from_gives = { λ fault e. e ≡ fault_of fault };

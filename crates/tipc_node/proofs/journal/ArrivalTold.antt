@@ -47,7 +47,7 @@ use Rattle.tipc_node.proofs.journal.PeersTold.{puts_each_linked, puts_each_worke
 use Rattle.tipc_node.proofs.Places.{set_either, set_there}
 use Rattle.tipc_node.proofs.journal.Putting.{IsInContact, all_delivered, all_given, not_nobody, still_in_contact}
 use Rattle.tipc_node.proofs.work.Arriving.{by_arrival}
-use Rattle.tipc_node.proofs.work.Finding.{discovered_same}
+use Rattle.tipc_node.proofs.work.Discovery.{discovered_same}
 use Rattle.tipc_node.proofs.work.Senders.{sender_other}
 use Rattle.tipc_node.proofs.journal.SendsTold.{begun_linked}
 use Rattle.tipc_pair.proofs.turns.TurnMeans.{contact_by_story, on_bearers, told_by_story}

@@ -26,7 +26,7 @@ use Rattle.tipc_sockets.specs.declared.fates.Fate.TheVariants.{Queued, Returned,
 use Rattle.tipc_sockets.specs.Fates.{after_fate}
 use Rattle.tipc_sockets.specs.Telling.{fate_entry, is_for_one_there, is_payload, origin_of}
 use Rattle.tipc_sockets.proofs.Entries.{told_entry}
-use Rattle.tipc_node.specs.declared.arriving.Delivery.{Delivery}
+use Rattle.tipc_node.specs.declared.frames.Delivery.{Delivery}
 use Rattle.tipc_node.specs.declared.neighbours.Neighbour.{Neighbour}
 use Rattle.tipc_node.specs.Messages.{bytes_of, destination_of, message_in}
 use Rattle.tipc_node.specs.Nodes.{NodeState, accepted_entry, deliveries_of, delivered_by, delivery_of, shown_contact}

@@ -28,7 +28,7 @@ use Rattle.tipc_node.specs.declared.neighbours.Upkeep.{Upkeep}
 use Rattle.tipc_node.specs.declared.neighbours.Upkeep.TheVariants as upkeep
 use Rattle.tipc_node.specs.Calls.{tick_plan, tick_work, upkeep_plan, upkeep_work}
 use Rattle.tipc_node.specs.declared.neighbours.Neighbour.{Neighbour}
-use Rattle.tipc_node.specs.Finding.{next_tick}
+use Rattle.tipc_node.specs.Discovery.{next_tick}
 use Rattle.tipc_node.specs.Nodes.{NodeState, after_all, upkeep_note, entries_all, is_change, mended_by, step_of}
 use Rattle.tipc_node.specs.Plans.{concluded_by}
 use Rattle.tipc_node.specs.Sockets.{timeouts_of}

@@ -42,7 +42,7 @@ use Rattle.tipc_node.specs.Turns.{NodeTurn, addr_of, is_change_of, is_delivered_
 use Rattle.tipc_node.specs.Works.{addr_of_word}
 use Rattle.tipc_node.proofs.work.Arriving.{by_arrival}
 use Rattle.tipc_pair.proofs.turns.Moves.{contact_by, contact_gone}
-use Rattle.tipc_node.proofs.work.Finding.{discovered_same}
+use Rattle.tipc_node.proofs.work.Discovery.{discovered_same}
 use Rattle.tipc_node.proofs.journal.Noting.{all_from}
 use Rattle.tipc_node.proofs.names.SharingDelivered.{filter_apart, is_delivery_of}
 use Rattle.tipc_pair.proofs.turns.PairTells.{Means, Story, began, contact_changes, ended, stays}

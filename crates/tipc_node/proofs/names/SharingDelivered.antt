@@ -22,7 +22,7 @@ use Rattle.tipc_reassembly.specs.declared.opening.Opened.TheVariants.{Whole, Pas
 use Rattle.tipc_sockets.specs.declared.fates.Fate.{Fate}
 use Rattle.tipc_sockets.specs.declared.fates.Fate.TheVariants.{Dropped, Queued, ReturnDropped, Returned}
 use Rattle.tipc_sockets.specs.Telling.{fate_entry, is_payload}
-use Rattle.tipc_node.specs.declared.arriving.Delivery.{Delivery}
+use Rattle.tipc_node.specs.declared.frames.Delivery.{Delivery}
 use Rattle.tipc_node.specs.Messages.{message_in}
 use Rattle.tipc_node.specs.Nodes.{deliveries_of, delivered_by}
 use Rattle.tipc_node.specs.Sharing.{flow_with}

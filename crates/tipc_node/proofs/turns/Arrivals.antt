@@ -24,10 +24,10 @@ use Rattle.tipc_pair.specs.declared.transitions.Transition.{Transition}
 use Rattle.tipc_pair.specs.Courses.{sent_in}
 use Rattle.tipc_pair.specs.Messages.{opened_in}
 use Rattle.tipc_pair.specs.PairTurns.Opening.{hears}
-use Rattle.tipc_node.specs.declared.arriving.Delivery.{Delivery}
+use Rattle.tipc_node.specs.declared.frames.Delivery.{Delivery}
 use Rattle.tipc_node.specs.declared.neighbours.Neighbour.{Neighbour}
 use Rattle.tipc_node.specs.Arrivals.{Arrives, Hears, heard_work}
-use Rattle.tipc_node.specs.Finding.{AreFound}
+use Rattle.tipc_node.specs.Discovery.{AreFound}
 use Rattle.tipc_node.specs.Neighbours.{answered_neighbour, answering, heard_neighbour, no_broadcast}
 use Rattle.tipc_node.specs.Nodes.{NodeState, arrival_answer, arrival_deliveries, change_entries, entries_in, neighbour_of, shown_contact, step_of, stopped_node}
 use Rattle.tipc_node.specs.Turns.{AreNamed, IsFrom, IsPlaced, IsRouted, IsTakenIn, NodeTurn, PeerTurn, frames_to, is_accepted_for, is_change_of, is_delivered_from, is_out_to}

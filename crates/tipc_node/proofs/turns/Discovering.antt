@@ -24,17 +24,17 @@ use Rattle.tipc_pair.specs.PairTurns.Opening.{makes}
 use Rattle.tipc_pair.proofs.turns.Addressing.{AreFor}
 use Rattle.tipc_pair.proofs.turns.TurnMoves.{made_changes}
 use Rattle.tipc_node.specs.Arrivals.{Discovers}
-use Rattle.tipc_node.specs.Finding.{AreFound, discovered_frames, discovered_node, found_course, found_frames, found_neighbour, found_node, has_found, responses}
+use Rattle.tipc_node.specs.Discovery.{AreFound, discovered_frames, discovered_node, found_course, found_frames, found_neighbour, found_node, has_found, responses}
 use Rattle.tipc_node.specs.Nodes.{NodeState, acquaintance, change_entries, end_with, is_other, kept, neighbour_of, pair_with, recorded, step_of}
 use Rattle.tipc_node.specs.Turns.{AreNamed, IsFrom, IsMaking, IsPlaced, IsRouted, NodeTurn, PeerTurn, frames_to, is_out_to}
 use Rattle.tipc_node.proofs.pairs.Strangers.{kept_near, pair_there}
 use Rattle.tipc_node.proofs.turns.Entries.{routed_to}
-use Rattle.tipc_node.proofs.turns.Finding.{responses_routed, responses_to}
+use Rattle.tipc_node.proofs.turns.Discovery.{responses_routed, responses_to}
 use Rattle.tipc_node.proofs.turns.Named.{first_frames}
 use Rattle.tipc_node.proofs.turns.Runs.{still_at}
 use Rattle.tipc_node.proofs.turns.Shares.{frames_to-other, frames_to-own}
 use Rattle.tipc_node.proofs.turns.Turning.{opens_turn, rests_turn, routed_then}
-use Rattle.tipc_node.proofs.work.Finding.{unheard_none}
+use Rattle.tipc_node.proofs.work.Discovery.{unheard_none}
 
 -- the step of such an arrival, and the node that recorded it
 abbrev found_step : By → ℕ → ℕ → NodeStep

@@ -19,12 +19,12 @@ use Rattle.tipc_node.specs.declared.neighbours.Neighbour.{Neighbour}
 use Rattle.tipc_node.specs.Neighbours.{IsOnBearer, done}
 use Rattle.tipc_node.specs.Messages.{message_in}
 use Rattle.tipc_node.specs.Nodes.{NodeState, change_entries, change_entry, delivered_by, deliveries_of, entries_all, entries_in, entries_one, neighbour_of, numbered_all, numbered_one, states_all, states_one}
-use Rattle.tipc_node.specs.Finding.{requests_by, upkeep_frames}
+use Rattle.tipc_node.specs.Discovery.{requests_by, upkeep_frames}
 use Rattle.tipc_node.specs.Turns.IsRouted.{on_link}
 use Rattle.tipc_node.specs.Turns.{IsOfNeighbour, IsPlaced, IsRouted, addr_of, delivered_entries, delivered_of, is_accepted_for, is_change_of, is_delivered_from}
 use Rattle.tipc_pair.proofs.turns.Addressing.{AreFor}
 use Rattle.tipc_node.proofs.journal.Telling.{same_word as own_word}
-use Rattle.tipc_node.proofs.turns.Finding.{requests_routed}
+use Rattle.tipc_node.proofs.turns.Discovery.{requests_routed}
 
 flat_map_same : {A B : Type 0} (f g : A → List B) (xs : List A) → ((x : A) → f x ≡ g x) → flat_map f xs ≡ flat_map g xs
 flat_map_same f g [] same = refl

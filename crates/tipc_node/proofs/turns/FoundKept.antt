@@ -24,7 +24,7 @@ use Rattle.tipc_pair.specs.PairTurns.Opening.{makes}
 use Rattle.tipc_node.specs.declared.neighbours.Neighbour.{Neighbour}
 use Rattle.tipc_node.specs.Arrivals.{Arrives, Discovers, Hears}
 use Rattle.tipc_node.specs.Calls.{CanPerform, Performs, plan_of}
-use Rattle.tipc_node.specs.Finding.{AreFound, found_node, has_found, nobody_heard, with_found}
+use Rattle.tipc_node.specs.Discovery.{AreFound, found_node, has_found, nobody_heard, with_found}
 use Rattle.tipc_node.specs.Nodes.{NodeState, acquaintance, end_with, kept, neighbour_of, pair_with, step_of}
 use Rattle.tipc_node.specs.Plans.{CarriesOut, Does, DoesUnless, Plan, Dispatch, frames_alone, on_its_way, to_peers}
 use Rattle.tipc_node.specs.Turns.{AreNamed, IsBrought, IsMaking, NodeTurn}

@@ -25,7 +25,7 @@ use Rattle.tipc_reassembly.specs.declared.opening.Opened.TheVariants.{Passed, Wh
 use Rattle.tipc_sockets.specs.declared.fates.Fate.{Fate}
 use Rattle.tipc_sockets.specs.declared.fates.Fate.TheVariants.{Dropped, Queued, ReturnDropped, Returned}
 use Rattle.tipc_sockets.specs.Telling.{fate_entry}
-use Rattle.tipc_node.specs.declared.arriving.Delivery.{Delivery}
+use Rattle.tipc_node.specs.declared.frames.Delivery.{Delivery}
 use Rattle.tipc_node.specs.declared.neighbours.Neighbour.{Neighbour}
 use Rattle.tipc_node.specs.Plans.{GoesItsWay}
 use Rattle.tipc_node.specs.Messages.{IsSendable, bytes_of, message_in}

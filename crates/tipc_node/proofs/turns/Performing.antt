@@ -21,7 +21,7 @@ use Rattle.tipc_node.specs.declared.neighbours.Upkeep.{Upkeep}
 use Rattle.tipc_node.specs.declared.neighbours.Upkeep.TheVariants as upkeep
 use Rattle.tipc_node.specs.declared.neighbours.Neighbour.{Neighbour}
 use Rattle.tipc_node.specs.Calls.{CanPerform, Performs, name_plan, plan_of, sender_refusal, tick_plan, upkeep_plan}
-use Rattle.tipc_node.specs.Finding.{upkeep_frames}
+use Rattle.tipc_node.specs.Discovery.{upkeep_frames}
 use Rattle.tipc_node.specs.Messages.{destination_of, limit_of}
 use Rattle.tipc_node.specs.Neighbours.{IsOnBearer, course_of, done}
 use Rattle.tipc_node.specs.Nodes.{NodeState, after_all, after_one, change_entries, upkeep_note, entries_all, entries_one, numbered_one, recorded, states_one, step_of}

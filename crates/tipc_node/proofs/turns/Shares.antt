@@ -11,12 +11,12 @@ use Rattle.tipc_header.specs.Frames.{is_of_link}
 use Rattle.tipc_node.specs.declared.neighbours.Upkeep.{Upkeep}
 use Rattle.tipc_node.specs.declared.neighbours.Neighbour.{Neighbour}
 use Rattle.tipc_node.specs.Neighbours.{done}
-use Rattle.tipc_node.specs.Finding.{requests_by, upkeep_frames}
+use Rattle.tipc_node.specs.Discovery.{requests_by, upkeep_frames}
 use Rattle.tipc_node.specs.Nodes.{NodeState, after_all, after_one, neighbour_of, numbered_all, numbered_one, states_all, states_one}
 use Rattle.tipc_node.specs.Turns.{frames_to, is_out_to, is_to}
 use Rattle.tipc_pair.proofs.turns.Addressing.{AreFor, IsFor}
 use Rattle.tipc_node.proofs.turns.Entries.{numbered_are, part_of, states_are}
-use Rattle.tipc_node.proofs.turns.Finding.{requests_to}
+use Rattle.tipc_node.proofs.turns.Discovery.{requests_to}
 
 -- ---- frames that are all for one node
 

@@ -25,7 +25,7 @@ use Rattle.tipc_link.specs.Parts.{IsShowable}
 use Rattle.tipc_pair.specs.PairTurns.Opening.{rests}
 use Rattle.tipc_pair.specs.PairTurns.PutsAll.{none_put}
 use Rattle.tipc_node.specs.declared.neighbours.Neighbour.{Neighbour}
-use Rattle.tipc_node.specs.Finding.{discovery_frame}
+use Rattle.tipc_node.specs.Discovery.{discovery_frame}
 use Rattle.tipc_node.specs.Messages.{IsSendable}
 use Rattle.tipc_node.specs.Neighbours.{no_broadcast, stranger}
 use Rattle.tipc_node.specs.Nodes.{NodeState, acquaintance, change_entries, is_other, neighbour_of, pair_with, step_of}
@@ -34,7 +34,7 @@ use Rattle.tipc_node.specs.Turns.{AreNamed, IsBrought, IsFrom, IsOfNeighbour, Is
 use Rattle.tipc_node.specs.Works.{Work, begun, concluded}
 use Rattle.tipc_node.proofs.turns.Runs.{IsRun, RunAt, Runs, StandFor, accepted_now, still_at}
 use Rattle.tipc_node.proofs.turns.Entries.{other_word as apart_word}
-use Rattle.tipc_node.proofs.turns.Finding.{never_to}
+use Rattle.tipc_node.proofs.turns.Discovery.{never_to}
 use Rattle.tipc_node.proofs.Filters.{filter-none}
 use Rattle.tipc_node.proofs.pairs.Strangers.{named_there, pair_alone, pair_there}
 

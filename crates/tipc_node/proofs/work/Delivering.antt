@@ -22,7 +22,7 @@ use Rattle.tipc_sockets.specs.Learning.{fitting, learnt_by}
 use Rattle.tipc_sockets.specs.SocketTables.{SocketTable}
 use Rattle.tipc_sockets.specs.Telling.{after_entry, is_payload}
 use Rattle.tipc_sockets.proofs.Learning.{IsApplying, fits_not, told_from}
-use Rattle.tipc_node.specs.declared.arriving.Delivery.{Delivery}
+use Rattle.tipc_node.specs.declared.frames.Delivery.{Delivery}
 use Rattle.tipc_node.specs.Hearings.{is_plain, AllDelivered, Delivered, Settled, TookIn}
 use Rattle.tipc_node.specs.Messages.{message_in}
 use Rattle.tipc_node.specs.Nodes.{deliveries_of, delivered_by, entries_in}

@@ -13,9 +13,9 @@ use Rattle.tipc_journal.specs.Steps.{step_entries}
 use Rattle.tipc_pair.specs.declared.transitions.Transition.{Transition}
 use Rattle.tipc_pair.specs.Courses.{sent_in}
 use Rattle.tipc_sockets.specs.Telling.{after_entry}
-use Rattle.tipc_node.specs.declared.arriving.Delivery.{Delivery}
-use Rattle.tipc_node.specs.declared.arriving.Due.{Due}
-use Rattle.tipc_node.specs.declared.listening.HeardPacket.{HeardPacket}
+use Rattle.tipc_node.specs.declared.frames.Delivery.{Delivery}
+use Rattle.tipc_node.specs.declared.frames.Due.{Due}
+use Rattle.tipc_node.specs.declared.packets.HeardPacket.{HeardPacket}
 use Rattle.tipc_node.specs.declared.neighbours.Neighbour.{Neighbour}
 use Rattle.tipc_node.specs.Arrivals.{Greets, IsDue, heard_work}
 use Rattle.tipc_node.specs.Hearings.{HasHeard, IsHeard, Worked, heard_at}

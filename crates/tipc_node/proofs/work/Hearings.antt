@@ -6,9 +6,9 @@ use Rattle.tipc_header.specs.Spelling.{view}
 use Rattle.tipc_pair.specs.declared.changes.PairOutcome.{PairOutcome}
 use Rattle.tipc_pair.specs.Preparing.{Prepares}
 use Rattle.tipc_types.specs.declared.message_forms.Flow.TheVariants.{Zero}
-use Rattle.tipc_node.specs.declared.arriving.Due.{Due}
-use Rattle.tipc_node.specs.declared.arriving.Hearing.{Hearing}
-use Rattle.tipc_node.specs.declared.listening.HeardPacket.{HeardPacket}
+use Rattle.tipc_node.specs.declared.frames.Due.{Due}
+use Rattle.tipc_node.specs.declared.frames.Hearing.{Hearing}
+use Rattle.tipc_node.specs.declared.packets.HeardPacket.{HeardPacket}
 use Rattle.tipc_node.specs.declared.neighbours.Neighbour.{Neighbour}
 use Rattle.tipc_node.specs.Hearings.{HasHeard, IsPrepared}
 use Rattle.tipc_node.specs.Neighbours.{HearsAt, no_broadcast}

@@ -12,7 +12,7 @@ use Rattle.tipc_outside.proofs.Adding.{adds_none}
 use Rattle.tipc_header.specs.declared.frames.FrameKind.TheVariants.{Casts, Finds, Links}
 use Rattle.tipc_header.specs.Frames.{kind_in}
 use Rattle.tipc_header.specs.Spelling.{view}
-use Rattle.tipc_node.specs.declared.arriving.Due.{Due}
+use Rattle.tipc_node.specs.declared.frames.Due.{Due}
 use Rattle.tipc_node.specs.Arrivals.{Arrives, BringsDiscovery, Discovers, Hears, IsDue}
 use Rattle.tipc_node.specs.Hearings.{FindsAt, FindsDue, HearsDue, IsDueAt, IsLooked}
 use Rattle.tipc_node.specs.declared.neighbours.Neighbour.{Neighbour}

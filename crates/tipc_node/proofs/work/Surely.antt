@@ -11,7 +11,7 @@ use Rattle.tipc_sockets.specs.Fates.{surely_waits, with_waiting}
 use Rattle.tipc_sockets.specs.SocketTables.{SocketTable}
 use Rattle.tipc_sockets.specs.Telling.{is_payload}
 use Rattle.tipc_sockets.proofs.Waiting.{sure_fate, waits_among, waits_behind}
-use Rattle.tipc_node.specs.declared.arriving.Delivery.{Delivery}
+use Rattle.tipc_node.specs.declared.frames.Delivery.{Delivery}
 use Rattle.tipc_node.specs.Hearings.{is_plain, AllDelivered, Settled}
 use Rattle.tipc_node.specs.Nodes.{entries_in, message_count, taken_count}
 use Rattle.tipc_node.specs.Sure.{all_wait, are_sure, message_of, messages_in, told_in, waiting_entries, waits_surely, with_all_waiting}

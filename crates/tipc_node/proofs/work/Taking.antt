@@ -15,10 +15,10 @@ use Rattle.tipc_pair.specs.declared.transitions.Transition.{Transition}
 use Rattle.tipc_pair.specs.Messages.{opened_in}
 use Rattle.tipc_sockets.specs.SocketTables.{SocketTable}
 use Rattle.tipc_sockets.specs.Telling.{after_entry}
-use Rattle.tipc_node.specs.declared.arriving.Delivery.{Delivery}
-use Rattle.tipc_node.specs.declared.arriving.Due.{Due}
-use Rattle.tipc_node.specs.declared.arriving.Hearing.{Hearing}
-use Rattle.tipc_node.specs.declared.listening.HeardPacket.{HeardPacket}
+use Rattle.tipc_node.specs.declared.frames.Delivery.{Delivery}
+use Rattle.tipc_node.specs.declared.frames.Due.{Due}
+use Rattle.tipc_node.specs.declared.frames.Hearing.{Hearing}
+use Rattle.tipc_node.specs.declared.packets.HeardPacket.{HeardPacket}
 use Rattle.tipc_node.specs.declared.neighbours.Neighbour.{Neighbour}
 use Rattle.tipc_node.specs.Arrivals.{Greets, IsDue}
 use Rattle.tipc_node.specs.Hearings.{is_plain, AllDelivered, Followed, HasHeard, IsHeard, IsPrepared, Worked, heard_at}

@@ -33,7 +33,7 @@ use Rattle.tipc_pair.specs.PairTurns.{Happened, Outset}
 use Rattle.tipc_pair.specs.PairTurns.Opening.{hears}
 use Rattle.tipc_paired.proofs.wires.Frames.{er_of-frame, es_of-frame, same_packet}
 use Rattle.tipc_paired.specs.Views.{er_of, es_of}
-use Rattle.tipc_node.specs.declared.arriving.Delivery.{Delivery}
+use Rattle.tipc_node.specs.declared.frames.Delivery.{Delivery}
 use Rattle.tipc_node.specs.Arrivals.{Arrives, Hears}
 use Rattle.tipc_node.specs.Neighbours.{no_broadcast}
 use Rattle.tipc_node.specs.Nodes.{NodeState, arrival_answer, arrival_deliveries, message_count, pair_with, step_of, stop_of}

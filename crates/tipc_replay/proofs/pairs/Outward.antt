@@ -15,11 +15,11 @@ use Rattle.tipc_journal.specs.Steps.{NodeStep}
 use Rattle.tipc_header.specs.declared.frames.FrameKind.TheVariants.{Finds}
 use Rattle.tipc_header.specs.Frames.{is_of_link, kind_in}
 use Rattle.tipc_discovery.specs.Hearing.{discovery_packet}
-use Rattle.tipc_node.specs.Finding.{discovery_frame}
+use Rattle.tipc_node.specs.Discovery.{discovery_frame}
 use Rattle.tipc_node.specs.Nodes.{is_frame_size, is_other}
 use Rattle.tipc_node.specs.Turns.{IsOfDiscovery, IsOnLink, IsRouted, IsToAnother, is_out_to, is_to}
 use Rattle.tipc_node.specs.Turns.IsRouted.{of_discovery, on_link}
-use Rattle.tipc_node.proofs.turns.Finding.{discovery_from, discovery_kind, discovery_size}
+use Rattle.tipc_node.proofs.turns.Discovery.{discovery_from, discovery_kind, discovery_size}
 use Rattle.tipc_replay.specs.declared.events.WorldEvent.{WorldEvent}
 use Rattle.tipc_replay.specs.declared.events.WorldEvent.TheVariants.{Restart, Call, Arrive}
 use Rattle.tipc_replay.specs.Addressed.{IsPacketOf, IsToOther, of_a_link}

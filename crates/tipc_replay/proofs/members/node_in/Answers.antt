@@ -1,6 +1,6 @@
 use Rattle.std.proofs.Common.{◌∙◌, ap}
 use Rattle.tipc_sockets.specs.SocketTables.{no_sockets}
-use Rattle.tipc_node.specs.Finding.{nobody_heard}
+use Rattle.tipc_node.specs.Discovery.{nobody_heard}
 use Rattle.tipc_replay.proofs.members.node_in.Goals as goal
 
 pub returns : goal.returns

@@ -12,11 +12,11 @@ use Rattle.tipc_discovery.specs.Finding.{after_hearing}
 use Rattle.tipc_discovery.specs.Hearing.{heard_on}
 use Rattle.tipc_node.specs.contracts.cores.Core.{the_view}
 use Rattle.tipc_node.specs.Drafts.{DraftState}
-use Rattle.tipc_node.specs.Finding.{AreFound, discovery_frame, is_request}
+use Rattle.tipc_node.specs.Discovery.{AreFound, discovery_frame, is_request}
 use Rattle.tipc_node.specs.Hearings.{FindsAt, FindsDue}
 use Rattle.tipc_node.specs.Nodes.{NodeState, step_of}
 use Rattle.tipc_node.proofs.work.Drafting.{core_of}
-use Rattle.tipc_node.proofs.work.Finding.{HasHeardOf, discovered_left, discovered_recorded, finds_due, found_shown, new_none}
+use Rattle.tipc_node.proofs.work.Discovery.{HasHeardOf, discovered_left, discovered_recorded, finds_due, found_shown, new_none}
 use Rattle.tipc_node.proofs.cores.Core.find.Goals as goal
 
 pub welcome-requires-clause-alone : goal.welcome-requires-clause-alone

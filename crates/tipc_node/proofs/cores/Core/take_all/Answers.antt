@@ -6,7 +6,7 @@ use Rattle.tipc_journal.specs.Room.{JournalState}
 use Rattle.tipc_ports.specs.Numbers.{PortTable}
 use Rattle.tipc_node.specs.contracts.cores.Core.{the_view}
 use Rattle.tipc_node.specs.declared.cores.Core.TheInside.{Inside}
-use Rattle.tipc_node.specs.declared.listening.HeardPacket.{HeardPacket}
+use Rattle.tipc_node.specs.declared.packets.HeardPacket.{HeardPacket}
 use Rattle.tipc_node.specs.Arrivals.{IsDue}
 use Rattle.tipc_node.specs.Drafts.{IsIdle}
 use Rattle.tipc_node.specs.Hearings.{IsPrepared}

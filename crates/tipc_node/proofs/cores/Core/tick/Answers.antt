@@ -14,7 +14,7 @@ use Rattle.tipc_topology.specs.Changing.{due}
 use Rattle.tipc_node.specs.contracts.cores.Core.{the_view}
 use Rattle.tipc_node.specs.Calls.{tick_plan, tick_work}
 use Rattle.tipc_node.specs.Drafts.{DraftState}
-use Rattle.tipc_node.specs.Finding.{requests_by}
+use Rattle.tipc_node.specs.Discovery.{requests_by}
 use Rattle.tipc_node.specs.Nodes.{NodeState, after_all, entries_all, is_change, made_all, numbered_all, states_all, step_of}
 use Rattle.tipc_node.specs.Plans.{concluded_by}
 use Rattle.tipc_node.specs.Works.{work_of}

@@ -1,6 +1,6 @@
 use Rattle.std.proofs.Common.{◌≡◌, ap, sym, subst, ◌∙◌}
 use Rattle.std.specs.Prelude.{OnOk}
-use Rattle.tipc_node.specs.declared.serving.NameChange.{NameChange}
+use Rattle.tipc_node.specs.declared.calls.NameChange.{NameChange}
 use Rattle.tipc_node.specs.Drafts.{with_sockets_in}
 use Rattle.tipc_node.specs.Sockets.{CanChangeNames, with_names_changed}
 use Rattle.tipc_node.proofs.drafts.Draft.change_names.Goals as goal

@@ -1,6 +1,6 @@
 use Rattle.std.proofs.Common.{◌≡◌, ℕ, [], List, Option, ap, sym, subst, ◌∙◌, rules}
 use Rattle.std.specs.List.{list_all}
-use Rattle.tipc_node.specs.declared.arriving.Delivery.{Delivery}
+use Rattle.tipc_node.specs.declared.frames.Delivery.{Delivery}
 use Rattle.tipc_node.specs.declared.neighbours.Neighbour.{Neighbour}
 use Rattle.tipc_node.specs.Drafts.{own_of}
 use Rattle.tipc_node.specs.Hearings.{is_plain, Delivered}

@@ -1,6 +1,6 @@
 use Rattle.std.proofs.Common.{◌∙◌, ap, sym}
 use Rattle.tipc_sockets.specs.SocketTables.{no_sockets}
-use Rattle.tipc_node.specs.Finding.{nobody_heard}
+use Rattle.tipc_node.specs.Discovery.{nobody_heard}
 use Rattle.tipc_node.proofs.journal.FirstTold.{new_told}
 use Rattle.tipc_node.proofs.Keeping.{held_of}
 use Rattle.tipc_node.proofs.Kept.{new_kept}

@@ -1,7 +1,7 @@
 use Rattle.std.proofs.Common.{◌≡◌, ◌<◌, ◌+◌, ◌++◌, ◌∷◌, ◌∙◌, ℕ, [], None, map, ap, refl, sym, subst}
 use Rattle.std.proofs.lemmas.List.{map-append}
 use Rattle.tipc_sockets.specs.SocketTables.{no_sockets}
-use Rattle.tipc_node.specs.Finding.{nobody_heard}
+use Rattle.tipc_node.specs.Discovery.{nobody_heard}
 use Rattle.tipc_node.specs.Nodes.{neighbour_of}
 use Rattle.tipc_replay.specs.Members.{IsFresh, IsRestarted}
 use Rattle.tipc_replay.specs.States.{MemberState}

@@ -1,5 +1,0 @@
-use Rattle.tipc_node.proofs.work.Deliveries.{IsLeft}
-use Rattle.tipc_node.proofs.arriving.fits.Given as goal
-
-abbrev pub invariant-loop-entry : goal.invariant-loop-entry
-invariant-loop-entry l = IsLeft l.entries l.entry-index l.left

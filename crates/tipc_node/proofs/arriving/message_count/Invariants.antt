@@ -1,5 +1,0 @@
-use Rattle.tipc_node.proofs.work.Deliveries.{IsCounted}
-use Rattle.tipc_node.proofs.arriving.message_count.Given as goal
-
-abbrev pub invariant-loop-delivery : goal.invariant-loop-delivery
-invariant-loop-delivery l = IsCounted l.deliveries l.delivery-index l.count

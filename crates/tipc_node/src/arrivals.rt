@@ -1,0 +1,252 @@
+//! What an arrival makes of a node.
+
+ghost use Rattle.std.specs.Prelude.{◌≡◌, ◌≢◌, ℕ, ◌≤◌, ◌-◌, List, [], true, false, Some, Err, length, IfErr, IfOk, OnErr, OnOk};
+ghost use Rattle.tipc_outside.specs.declared.outgoing.Outgoing.{Outgoing};
+ghost use Rattle.tipc_outside.specs.Frames.{Adds};
+ghost use Rattle.tipc_header.specs.declared.frames.FrameKind.TheVariants.{Casts, Finds, Links};
+ghost use Rattle.tipc_header.specs.Frames.{kind_in};
+ghost use Rattle.tipc_header.specs.Spelling.{view};
+ghost use Rattle.tipc_node.specs.Arrivals.{Arrives, BringsDiscovery, IsDue};
+ghost use Rattle.tipc_node.specs.Discovery.{AreFound};
+ghost use Rattle.tipc_node.specs.Hearings.{told_changes, HearsDue, IsDueAt, IsPrepared};
+ghost use Rattle.tipc_journal.specs.Room.{free_entries, has_journal_room};
+ghost use Rattle.tipc_node.specs.Nodes.{message_count, neighbour_of, stop_of, stopped_node};
+ghost use Rattle.tipc_node.specs.Sure.{all_wait};
+
+use crate::cores::Core;
+use crate::frames::{Due, Hearing, fits, look, message_count, prepare};
+use crate::steps::{NodeFault, begin, has_journal_room, record};
+use crate::sure::{all_wait, conclude_waiting, prepare_waiting};
+use std::alloc::Global;
+use tipc_header::FrameKind;
+use tipc_outside::Outbox;
+use tipc_types::{Answer, Arrival, By, EventNote, NoMemory, Why};
+
+impl Core {
+    /// A frame arrives on a bearer; `number` is its number among all that arrived at this node. A packet that it
+    /// brings to a link is heard there, and by one of discovery its sender is found; a frame that is stopped is ignored
+    /// for the first reason that holds.
+    ///
+    /// # Errors
+    ///
+    /// JournalFull exactly where the journal has no room for a call, else NoMemory. Neither changes anything.
+    pub fn arrive(
+        &mut self,
+        alloc: Global,
+        by: By,
+        bearer: u8,
+        number: u64,
+        frame: &[u8],
+        out: &mut Outbox,
+    ) -> Result<Arrival, NodeFault>
+        requires { AreFound self.old }
+        ensures ok { IfOk result (λ a. (frames : List Outgoing)
+            × Arrives self.old self.new by bearer number frame.now frames a × Adds out.old out.new frames) }
+        ensures room { OnOk result (has_journal_room self.old.journal ≡ true) }
+        ensures full { has_journal_room self.old.journal ≡ false → result ≡ Err NodeFault.JournalFull }
+        ensures only { result ≡ Err NodeFault.JournalFull → has_journal_room self.old.journal ≡ false }
+        ensures err { OnErr result ((self.new ≡ self.old) × (out.new ≡ out.old)) }
+    {
+        match self.due(bearer, frame) {
+            Ok(due) => match due.kind {
+                FrameKind::Links => self.hear(alloc, by, number, &due, out),
+                FrameKind::Finds => self.find(alloc, by, number, &due, out),
+                FrameKind::Casts => unreachable!(),
+            },
+            Err(why) => self.ignore(alloc, by, bearer, number, why),
+        }
+    }
+
+    /// The packet of a frame that arrives on a bearer: a link packet is due at the link of the node that it names as its
+    /// sender, and a discovery packet is of the network. Or the first reason that stops it.
+    fn due<'a>(&self, bearer: u8, frame: &'a [u8]) -> Result<Due<'a>, Why>
+        ensures due { IfOk result (λ d. d.kind ≡ Links →
+            IsDue self.now frame.now d.bearer d.peer d.first d.second (view d.packet)) }
+        ensures brings { IfOk result (λ d. d.kind ≡ Finds →
+            BringsDiscovery self.now frame.now d.bearer d.peer d.first d.second (view d.packet)) }
+        ensures kind { IfOk result (λ d. (kind_in frame.now ≡ d.kind) × (d.kind ≢ Casts)) }
+        ensures bearer { IfOk result (λ d. d.bearer ≡ bearer) }
+        ensures clear { OnOk result (stop_of self.now bearer frame.now ≡ None) }
+        ensures stopped { IfErr result (λ why. stop_of self.now bearer frame.now ≡ Some why) }
+    {
+        look(
+            self.own,
+            self.mended,
+            self.draft.neighbours(),
+            bearer,
+            frame,
+        )
+    }
+
+    /// A frame arrives that is stopped; `number` is its number among all that arrived at this node.
+    ///
+    /// # Errors
+    ///
+    /// JournalFull exactly where the journal has no room for a call, else NoMemory. Neither changes anything.
+    fn ignore(
+        &mut self,
+        alloc: Global,
+        by: By,
+        bearer: u8,
+        number: u64,
+        why: Why,
+    ) -> Result<Arrival, NodeFault>
+        ensures ok { IfOk result (λ a. (a ≡ Arrival.Ignored why) ×
+            (self.new ≡ stopped_node self.old by bearer number why) × (has_journal_room self.old.journal ≡ true)) }
+        ensures full { has_journal_room self.old.journal ≡ false → result ≡ Err NodeFault.JournalFull }
+        ensures only { result ≡ Err NodeFault.JournalFull → has_journal_room self.old.journal ≡ false }
+        ensures err { OnErr result (self.new ≡ self.old) }
+    {
+        begin(&mut self.journal, 0)?;
+        let note = EventNote::Arrive { bearer, number };
+        let kept = Answer::Arrived(Arrival::Ignored(why));
+        record(&mut self.journal, by, note, Vec::new(alloc), kept);
+        Ok(Arrival::Ignored(why))
+    }
+
+    /// A frame arrives whose packet is due at the link of a peer; `number` is its number among all that arrived at
+    /// this node. The pair makes of it what its states and the contact numbers say. A peer with which a contact
+    /// begins is told of the live publications. A message that is given is recorded as delivered, and has its fate,
+    /// or its items are applied. A STATE that is due is sent last.
+    ///
+    /// # Errors
+    ///
+    /// JournalFull exactly where the journal has no room for a call, else NoMemory. Neither changes anything.
+    fn hear(
+        &mut self,
+        alloc: Global,
+        by: By,
+        number: u64,
+        due: &Due<'_>,
+        out: &mut Outbox,
+    ) -> Result<Arrival, NodeFault>
+        requires due { IsDueAt self.old due.now }
+        ensures heard { IfOk result (λ a. HearsDue self.old self.new by number due.now out.old out.new a) }
+        ensures room { OnOk result (has_journal_room self.old.journal ≡ true) }
+        ensures full { has_journal_room self.old.journal ≡ false → result ≡ Err NodeFault.JournalFull }
+        ensures only { result ≡ Err NodeFault.JournalFull → has_journal_room self.old.journal ≡ false }
+        ensures err { OnErr result ((self.new ≡ self.old) × (out.new ≡ out.old)) }
+    {
+        if !has_journal_room(&self.journal) {
+            return Err(NodeFault::JournalFull);
+        }
+        let arrived = self.take(alloc, by, number, due, out)?;
+        Ok(arrived)
+    }
+
+    /// Whether nothing becomes of the links and the contact by an arrival that will make this, and nothing goes back: each
+    /// message surely waits at its port.
+    fn is_sure(&self, heard: &Hearing) -> bool
+        requires { length heard.now.deliveries.items ≤ free_entries - 4 }
+        ensures { result ≡ true → (told_changes heard.now ≡ []) ×
+            (all_wait self.now.sockets (message_count heard.now.deliveries.items) heard.now.deliveries.items ≡ true) }
+    {
+        if !heard.arriving.changes().is_empty() {
+            return false;
+        }
+        let deliveries = heard.deliveries.as_slice();
+        all_wait(self.draft.sockets(), message_count(deliveries), deliveries)
+    }
+
+    /// A packet arrives, and there is room for the call: as [`Core::hear`].
+    fn take(
+        &mut self,
+        alloc: Global,
+        by: By,
+        number: u64,
+        due: &Due<'_>,
+        out: &mut Outbox,
+    ) -> Result<Arrival, NoMemory>
+        requires due { IsDueAt self.old due.now }
+        requires room { has_journal_room self.old.journal ≡ true }
+        ensures heard { IfOk result (λ a. HearsDue self.old self.new by number due.now out.old out.new a) }
+        ensures err { OnErr result ((self.new ≡ self.old) × (out.new ≡ out.old)) }
+    {
+        let Some(neighbour) = self.neighbour(due.peer) else {
+            unreachable!()
+        };
+        let heard = prepare(alloc, neighbour, number, due)?;
+        if self.is_sure(&heard) {
+            self.take_all(alloc, by, due, heard, out)
+        } else {
+            self.hear_each(alloc, by, due, heard, out)
+        }
+    }
+
+    /// A packet arrives by which nothing becomes of the links and the contact, and each message that is given surely waits
+    /// at its port: as [`Core::take`]. What can fail is done first.
+    fn take_all(
+        &mut self,
+        alloc: Global,
+        by: By,
+        due: &Due<'_>,
+        heard: Hearing,
+        out: &mut Outbox,
+    ) -> Result<Arrival, NoMemory>
+        requires due { IsDueAt self.old due.now }
+        requires room { has_journal_room self.old.journal ≡ true }
+        requires heard { IsPrepared (neighbour_of self.old due.now.peer) due.now heard }
+        requires still { told_changes heard ≡ [] }
+        requires sure { all_wait self.old.sockets (message_count heard.deliveries.items)
+            heard.deliveries.items ≡ true }
+        ensures heard { IfOk result (λ a. HearsDue self.old self.new by heard.number due.now out.old out.new a) }
+        ensures err { OnErr result ((self.new ≡ self.old) × (out.new ≡ out.old)) }
+    {
+        let told = prepare_waiting(alloc, heard.deliveries)?;
+        if !fits(told.entries.as_slice()) {
+            return Err(NoMemory);
+        }
+        self.journal.reserve(told.entries.len() as u64 + 2)?;
+        let Some(neighbour) = &mut self.draft.neighbours[due.peer as usize] else {
+            unreachable!()
+        };
+        let _ = neighbour.take(alloc, heard.arriving, &due.packet, out);
+        neighbour.answer(alloc, due.bearer, out);
+        let note = EventNote::Arrive {
+            bearer: due.bearer,
+            number: heard.number,
+        };
+        let kept = Answer::Arrived(heard.answer);
+        conclude_waiting(
+            &mut self.draft.sockets,
+            &mut self.journal,
+            by,
+            note,
+            told,
+            kept,
+        );
+        Ok(heard.answer)
+    }
+
+    /// A packet arrives, and a peer may be greeted, or something may go back, or items are applied: as
+    /// [`Core::hear`]. Where memory runs out, the node is made what it was.
+    fn hear_each(
+        &mut self,
+        alloc: Global,
+        by: By,
+        due: &Due<'_>,
+        heard: Hearing,
+        out: &mut Outbox,
+    ) -> Result<Arrival, NoMemory>
+        requires due { IsDueAt self.old due.now }
+        requires room { has_journal_room self.old.journal ≡ true }
+        requires prepared { IsPrepared (neighbour_of self.old due.now.peer) due.now heard }
+        ensures heard { IfOk result (λ a. HearsDue self.old self.new by heard.number due.now out.old out.new a) }
+        ensures err { OnErr result ((self.new ≡ self.old) × (out.new ≡ out.old)) }
+    {
+        let number = heard.number;
+        let before = self.draft.sockets().copy()?;
+        let Ok(answer) = self.draft.hear_in(alloc, &mut self.journal, due, heard) else {
+            self.draft.take_back(alloc, before);
+            return Err(NoMemory);
+        };
+        let note = EventNote::Arrive {
+            bearer: due.bearer,
+            number,
+        };
+        let kept = Answer::Arrived(answer);
+        self.draft
+            .conclude(alloc, &mut self.journal, by, note, kept, out);
+        Ok(answer)
+    }
+}
