@@ -1,5 +1,5 @@
 -- What contracts see of a seat.
-use Rattle.std.specs.Prelude.{ℕ, List, [], ◌∷◌, ◌++◌}
+use Rattle.std.specs.Prelude.{ℕ, ◌^◌, nat_le, Bool, List, [], ◌∷◌, ◌++◌, length}
 use Rattle.atomic_table.specs.Seated.{TableId}
 
 -- the word that a seat is of, the numbers that it drew, in order, and the least number that wasn't drawn when it last looked
@@ -19,3 +19,7 @@ drew seat n = record { of_table = seat.of_table; drawn = seat.drawn ++ n ∷ [];
 -- after it saw a number
 abbrev pub saw : SeatState → ℕ → SeatState
 saw seat n = record { of_table = seat.of_table; drawn = seat.drawn; seen = n }
+
+-- whether it drew as many numbers as a seat may: 2^40
+abbrev pub is_spent : SeatState → Bool
+is_spent seat = nat_le (2 ^ 40) (length seat.drawn)

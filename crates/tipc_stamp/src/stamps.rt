@@ -1,7 +1,7 @@
 //! The word that stamps are drawn from, and the seats that draw.
 
 ghost use Rattle.std.specs.Prelude.{◌≡◌, ◌≤◌, ◌<◌, ◌^◌, length, replicate, All, Err, IfOk, OnErr};
-ghost use Rattle.tipc_stamp.specs.Seats.{drew, new_seat, saw};
+ghost use Rattle.tipc_stamp.specs.Seats.{drew, is_spent, new_seat, saw};
 
 use crate::rule::{Deal, Draw, Drawn, EachOnce, Look};
 use atomic_table::{Seat, Table};
@@ -50,6 +50,15 @@ impl Model for StampSeat {
 
     ghost invariant = { λ s. (s.seat.me.1 ≡ []) × (s.left ≡ s.seat.me.0.left)
         × (length s.seat.me.0.drawn + s.left ≡ 2 ^ 40) };
+}
+
+impl StampSeat {
+    /// Whether it drew its 2^40 stamps.
+    pub fn is_spent(&self) -> bool
+        ensures { result ≡ is_spent self.now }
+    {
+        self.left == 0
+    }
 }
 
 /// The seat drew its 2^40 stamps.

@@ -1,0 +1,5 @@
+pub mod Journals
+pub mod Locked
+pub mod Locks
+pub mod Passes
+pub mod Sections

@@ -1,0 +1,19 @@
+//! A node behind a lock, for threads that call it at once. Each call is made whole under the lock and is one step of the node's journal,
+//! under a stamp that orders the calls of all threads.
+//!
+//! - The lock: `locks` (what threads share, and its calls), `passes` (what each of them calls with).
+//! - Behind it: `locked` (the node with what its calls need, and what is done for one call: its section).
+//! - `counts` (how often each caller was answered), `notes` (what a pass keeps of a call), `faults` (why a call wasn't made).
+#![tactic(auto)]
+
+mod counts;
+mod faults;
+mod locked;
+mod locks;
+mod notes;
+mod passes;
+
+pub use faults::LockFault;
+pub use locked::LockedNode;
+pub use locks::NodeLock;
+pub use passes::{MadeCall, Pass};
