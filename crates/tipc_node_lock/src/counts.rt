@@ -28,7 +28,8 @@ pub fn count_call(counts: &mut Vec<u64>, caller: u32)
     requires there { caller < length counts.old.items }
     requires few { slice_index_or counts.old.items caller 0 < 2 ^ 63 }
     ensures one { slice_index_or counts.new.items caller 0 ≡ slice_index_or counts.old.items caller 0 + 1 }
-    ensures others { (who : ℕ) → who ≢ caller → slice_index_or counts.new.items who 0 ≡ slice_index_or counts.old.items who 0 }
+    ensures others { (who : ℕ) → who ≢ caller →
+        slice_index_or counts.new.items who 0 ≡ slice_index_or counts.old.items who 0 }
 {
     counts[caller as usize] += 1;
 }

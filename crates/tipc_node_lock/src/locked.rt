@@ -63,7 +63,8 @@ impl<P> Model for LockedNode<P> {
 
 /// Whether a call of a pass may be made: the journal has room for it, and the seat isn't spent. A full journal is marked in the pass.
 fn admit(node: &Node, pass: &mut Pass) -> Result<(), LockFault>
-    ensures ok { OnOk result ((has_journal_room node.now.journal ≡ true) × (is_spent pass.old.seat ≡ false) × (pass.new ≡ pass.old)) }
+    ensures ok { OnOk result ((has_journal_room node.now.journal ≡ true) × (is_spent pass.old.seat ≡ false) ×
+        (pass.new ≡ pass.old)) }
     ensures err { IfErr result (λ why. TurnsAway node.now.journal pass.old why pass.new) }
 {
     if !node.has_room() {

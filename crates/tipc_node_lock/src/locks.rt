@@ -128,8 +128,8 @@ impl<'s, P> NodeLock<'s, P> {
     ) -> Result<LockedNode<P>, (NodeLock<'s, P>, Vec<Pass>)>
         ensures whole { OnOk result (is_one_per_caller self.entry.own self.entry.callers passes.items ≡ true) }
         ensures passes { IfOk result (λ n. n.passes ≡ passes.items) }
-        ensures back { IfErr result (λ r. (is_one_per_caller self.entry.own self.entry.callers passes.items ≡ false) × (r.0 ≡ self.entry) ×
-            (r.1.items ≡ passes.items)) }
+        ensures back { IfErr result (λ r. (is_one_per_caller self.entry.own self.entry.callers passes.items ≡ false) ×
+            (r.0 ≡ self.entry) × (r.1.items ≡ passes.items)) }
     {
         if !is_one_per_caller(self.own, self.callers, passes.as_slice()) {
             return Err((self, passes));
