@@ -5,6 +5,9 @@ random_script.py SEED LINES: a script of so many lines behind the ones that make
 seed gives the same script. The nodes find each other on bearer 0, and links of bearer 1 are asked for; bearers are cut and
 mended, links left to fall silent, nodes restarted, messages of any length are sent between all ports that were ever made, one or
 many at a time, and frames arrive late, again and in any order.
+
+random_script.py SEED LINES casts: a broadcast link that runs long. Node 1 multicasts to four members; frames are lost and arrive out of
+order, members are cut and come back, and the numbers go around 65,536.
 """
 
 import random
@@ -110,9 +113,74 @@ class Cluster:
         return f"{kind} {n}"
 
 
+class Casting:
+    """A node that multicasts to four others, behind so many multicasts that its next number is near 65,536."""
+
+    MEMBERS = (2, 3, 4, 5)
+    NUMBERS = 65_536
+    # what leaves and what waits where nobody says what it took: more of critical importance is refused then
+    IN_FLIGHT, WAITING = 50, 200
+
+    def __init__(self, draw: random.Random):
+        self.draw = draw
+
+    def first_lines(self) -> list:
+        """Numbers are used up fast where the last contact ends while packets wait."""
+        lines = [f"node {n}" for n in (1, *self.MEMBERS)] + [f"socket {n}" for n in (1, *self.MEMBERS)]
+        lines += [f"publish {n} 1 200 0 {9 + n} cluster {n}" for n in self.MEMBERS] + ["link 1 2 0"]
+        used = self.IN_FLIGHT + self.WAITING
+        begin = self.NUMBERS - self.draw.randint(0, 2 * used)
+        for _ in range(begin // used):
+            lines += [f"repeat {used} send 1 1 cast 200 0 0 critical =x", "cut 1 0", "link 1 2 0"]
+        lines += [f"link 1 {n} {x}" for n in self.MEMBERS for x in (0, 1)]
+        return lines + ["settle 4", "mark"]
+
+    def member(self) -> int:
+        return self.draw.choice(self.MEMBERS)
+
+    def cast(self) -> str:
+        importance = self.draw.choice(IMPORTANCES)
+        upper = self.draw.randint(0, 16)
+        body = self.draw.choice(("=a", "=bb", "*0", "*1408", "*1409", "*5000", "*66000"))
+        return f"send 1 1 cast 200 {self.draw.randint(0, upper)} {upper} {importance} {body}"
+
+    def line(self) -> str:
+        """One more line."""
+        kinds = {
+            "cast": 30, "repeat": 12, "late": 40, "pump": 14, "mark": 5, "tick": 10, "settle": 5, "cut": 4, "mend": 8, "receive": 6,
+            "drain": 8, "flow": 4, "show": 4, "air": 4, "links": 4, "port": 4, "restart": 0.2,
+        }
+        kind = self.draw.choices(list(kinds), list(kinds.values()))[0]
+        n, x = self.member(), self.draw.randint(0, 1)
+        if kind == "cast":
+            return self.cast()
+        if kind == "repeat":
+            return f"repeat {self.draw.choice((5, 60, 300))} {self.cast()}"
+        if kind == "late":
+            return f"arrive {self.draw.choice((1, n, n, n))} {x} {self.draw.randint(0, self.draw.choice((5, 30, 120)))}"
+        if kind == "port":
+            return f"send {n} 1 port 1 1 low =x"
+        if kind == "flow":
+            return f"flow 1 {n}"
+        if kind in ("pump", "air"):
+            return f"{kind} {x}"
+        if kind == "show":
+            return f"show {x} {self.draw.randint(0, 60)}"
+        if kind == "settle":
+            return f"settle {self.draw.randint(0, 5)}"
+        if kind in ("cut", "mend"):
+            return f"{kind} {1 if self.draw.random() < 0.08 else n} {x}"
+        if kind in ("receive", "drain"):
+            return f"{kind} {n} 1"
+        if kind == "mark":
+            return "mark"
+        return f"{kind} {n}"
+
+
 def main() -> None:
     seed, lines = int(sys.argv[1]), int(sys.argv[2])
-    cluster = Cluster(random.Random(seed))
+    draw = random.Random(seed)
+    cluster = Casting(draw) if sys.argv[3:] == ["casts"] else Cluster(draw)
     script = cluster.first_lines()
     script += [cluster.line() for _ in range(lines)]
     print("\n".join(script))

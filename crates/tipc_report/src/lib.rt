@@ -1,4 +1,4 @@
-//! The lines of a report: the bytes of each answer, and of the lines that end a report early.
+//! The lines of a report: the bytes of each answer, of the lines that end a report early, and of the one that begins that of a generated script.
 #![tactic(auto)]
 
 mod answers;
@@ -11,5 +11,5 @@ mod told;
 mod words;
 
 pub use limits::Which;
-pub use printing::{print, print_bad, print_limit};
+pub use printing::{print, print_bad, print_limit, print_seed};
 pub use told::Told;

@@ -2,7 +2,7 @@
 
 ghost use Rattle.std.specs.Prelude.{◌≡◌, ◌++◌, OnOk, OnErr, IfOk};
 ghost use Rattle.tipc_report.specs.Closing.{bad_text, limit_text, why_word};
-ghost use Rattle.tipc_report.specs.Text.{line_of, told_line, bad_line, limit_line};
+ghost use Rattle.tipc_report.specs.Text.{line_of, told_line, bad_line, limit_line, seed_line};
 
 use crate::limits::Which;
 use crate::told::{Told, told_text};
@@ -92,4 +92,17 @@ pub fn print_limit(line: u32, which: Which, into: &mut Vec<u8>) -> Result<(), No
     let alloc = *into.allocator();
     let text = limit_text(alloc, which)?;
     print_text(line, text.as_slice(), into)
+}
+
+/// Appends the first line of the report of a generated script: `gen `, the number that it was made from, and a newline. Where memory runs
+/// out, nothing is appended.
+#[tactic(auto, unfolding(crate::specs::Text::seed_line))]
+pub fn print_seed(seed: u32, into: &mut Vec<u8>) -> Result<(), NoMemory>
+    ensures ok { OnOk result (into.new.items ≡ into.old.items ++ seed_line seed) }
+    ensures err { OnErr result (into.new.items ≡ into.old.items) }
+{
+    let alloc = *into.allocator();
+    let line = format!(in alloc; "gen {seed}\n")?.into_bytes();
+    into.extend_from_slice(line.as_slice())?;
+    Ok(())
 }

@@ -23,7 +23,7 @@ visible_decides byte = (
 all_visible : (text : List ℕ) → Decides (list_all is_visible text) (All IsVisible text)
 all_visible text = Decides-by_and is_visible IsVisible (list_all is_visible) visible_decides refl (λ x xs. refl) text
 
-length_pattern : (count : ℕ) → length (pattern count) ≡ count
+pub length_pattern : (count : ℕ) → length (pattern count) ≡ count
 unfolding pattern
 length_pattern count = length-map-range_with_len (λ i. i % 251) 0 count
 
@@ -38,7 +38,7 @@ text_word (byte ∷ bytes) h =
     let first = and_parts (is_visible byte) (list_all is_visible bytes) ((all_visible (byte ∷ bytes)).1 h.2) in
     rw (first.0) refl
 
-pattern_word : (count : ℕ) → body_word (pattern count) ≡ 42 ∷ decimal count
+pub pattern_word : (count : ℕ) → body_word (pattern count) ≡ 42 ∷ decimal count
 unfolding pattern
 pattern_word zero = refl
 pattern_word (suc count) = ap (λ n. 42 ∷ decimal n) (length_pattern (suc count))

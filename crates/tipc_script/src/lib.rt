@@ -15,4 +15,5 @@ mod tokens;
 pub use body::is_visible;
 pub use faults::{LineFault, LineWhy};
 pub use lines::{Command, Destination, Filter, Line, NodeToken};
+pub use numbers::number_in;
 pub use parsing::{grammar, parse_line};

@@ -1,6 +1,8 @@
 pub mod CourseLaws
+pub mod HeadLaws
 pub mod LineLaws
 pub mod ListLaws
+pub mod LoadLaws
 pub mod NodeLaws
 pub mod OutputLaws
 pub mod ReportLaws

@@ -5,18 +5,17 @@ use Rattle.std.specs.Io.KnownBytes.{Appends}
 use Rattle.std.proofs.KnownBytes.{Appends-trans, Appends-nil}
 use Rattle.std.proofs.lemmas.List.{length-append, length-drop, length-take, take_all}
 use Rattle.std.proofs.Math.Seq.{take-append-add}
-use Rattle.tipc_report.specs.Text.{told_line}
 use Rattle.tipc_script.specs.Grammar.{asked}
 use Rattle.tipc_world.specs.Growth.{Grows}
 use Rattle.tipc_world.specs.States.{WorldState, is_there}
 use Rattle.tipc_sim.specs.declared.status.Status.{Status}
 use Rattle.tipc_sim.specs.declared.status.Status.TheVariants as status
-use Rattle.tipc_sim.specs.Happenings.{IsBegun, Runs, Scene, begin, go_on, scene}
-use Rattle.tipc_sim.specs.Lines.{lines_of}
+use Rattle.tipc_sim.specs.Happenings.{IsBegun, Runs, Scene, begin, go_on, scene, written_line}
+use Rattle.tipc_sim.specs.Lines.{IsWithin, lines_of}
 use Rattle.tipc_sim.specs.Nodes.{AreSound, IsFirstBad, fault_where, made_by, makes}
 use Rattle.tipc_sim.specs.Noted.{no_notes}
 use Rattle.tipc_sim.specs.Output.{AppendsPart}
-use Rattle.tipc_sim.specs.Reports.{Ends, EndsBadly, EndsLimited, EndsOver, EndsUntold, Reports, WritesReport}
+use Rattle.tipc_sim.specs.Reports.{Ends, EndsBadly, EndsLimited, EndsOver, EndsUntold, ReachesLimit, Reports, WritesReport}
 use Rattle.tipc_sim.specs.Steps.{IsUnderWay, IsDone, IsHalted, IsRefused, IsCut, IsUntold, TellsAnswer, TellsFault, TellsLimit, LineRuns, IsLimitStatus}
 use Rattle.tipc_sim.proofs.LineLaws.{lines_of-nil}
 use Rattle.tipc_sim.proofs.ListLaws.{here}
@@ -24,7 +23,7 @@ use Rattle.tipc_sim.proofs.ReportLaws.{fault_where_same, made_by_more, sound_mor
 use Rattle.tipc_world.proofs.Continuing.{grows_equal, grows_same}
 
 -- a text and a part of another are a part of both
-part_more : (a b c : Option (List ℕ)) (text more : List ℕ) → Appends a b text → AppendsPart b c more → AppendsPart a c (text ++ more)
+pub part_more : (a b c : Option (List ℕ)) (text more : List ℕ) → Appends a b text → AppendsPart b c more → AppendsPart a c (text ++ more)
 part_more a b c text more whole part = (
   length text + part.0,
   omega (arith, part.1, length-append text more),
@@ -32,7 +31,7 @@ part_more a b c text more whole part = (
 )
 
 -- a script before its first line
-pub begins : (script : List ℕ) (start : WorldState) (contents : Option (List ℕ)) → ((n : ℕ) → is_there start n ≡ false) → IsUnderWay script script 0 (scene start no_notes) (scene start no_notes) contents contents
+pub begins : {from : ℕ} (script : List ℕ) (start : WorldState) (contents : Option (List ℕ)) → ((n : ℕ) → is_there start n ≡ false) → IsUnderWay from script script 0 (scene start no_notes) (scene start no_notes) contents contents
 unfolding made_by
 begins script start contents none = record {
   few = omega arith;
@@ -49,17 +48,17 @@ abbrev Next : List ℕ → List ℕ → List ℕ → Type 0
 Next rest line behind = lines_of rest ≡ line ∷ lines_of behind
 
 -- what is behind a line that was done
-record IsMore (script line behind : List ℕ) (number : ℕ) (start now : Scene) (report text : List ℕ) : Type 0 where
+record IsMore (from : ℕ) (script line behind : List ℕ) (number : ℕ) (start now : Scene) (report text : List ℕ) : Type 0 where
   few : number + 1 ≤ length (lines_of script)
   left : lines_of behind ≡ drop (number + 1) (lines_of script)
   sound : AreSound (take (number + 1) (lines_of script))
   nodes : (n : ℕ) → is_there now.world n ≡ made_by (take (number + 1) (lines_of script)) n
-  runs : Runs start (take (number + 1) (lines_of script)) now (report ++ text)
+  runs : Runs from start (take (number + 1) (lines_of script)) now (report ++ text)
 
 -- a line that was done comes behind those that were done
-one_more : (script rest line behind text : List ℕ) (number : ℕ) (start old new : Scene) (before between : Option (List ℕ)) (u : IsUnderWay script rest number start old before between) → Next rest line behind
-    → TellsAnswer (number + 1) line old new text → IsMore script line behind number start new u.report text
-one_more script rest line behind text number start old new before between u next told =
+one_more : {from : ℕ} (script rest line behind text : List ℕ) (number : ℕ) (start old new : Scene) (before between : Option (List ℕ)) (u : IsUnderWay from script rest number start old before between) → Next rest line behind
+    → TellsAnswer from (number + 1) line old new text → IsMore from script line behind number start new u.report text
+one_more {from} script rest line behind text number start old new before between u next told =
     let lines = lines_of script in
     let h = here lines number line (lines_of behind) (sym u.left ∙ next) in
     let answered = told.1 in
@@ -67,20 +66,20 @@ one_more script rest line behind text number start old new before between u next
     let plus = add-one number in
     let front : take number lines ++ line ∷ [] ≡ take (number + 1) lines = sym (ap (λ k. take k lines) plus ∙ h.front) in
     let count : length (take number lines) + 1 ≡ number + 1 = omega (arith, length-take number lines, u.few) in
-    let spelled : told_line (length (take number lines) + 1) answered.given ≡ text = ap (λ k. told_line k answered.given) count ∙ sym answered.spelled in
+    let spelled : written_line from (length (take number lines) + 1) answered.given ≡ text = ap (λ k. written_line from k answered.given) count ∙ sym answered.spelled in
     record {
       few = omega (arith, h.within);
       left = sym (ap (λ k. drop k lines) plus ∙ h.behind);
       sound = subst AreSound front (sound_more (take number lines) line u.sound none);
       nodes = λ n. answered.happened.nodes n ∙ ap (λ b. makes (asked line) n || b) (u.nodes n) ∙ sym (made_by_more (take number lines) line n) ∙ ap (λ ls. made_by ls n) front;
-      runs = subst (λ t. Runs start (take (number + 1) lines) new (u.report ++ t)) spelled
-          (subst (λ ls. Runs start ls new (u.report ++ told_line (length (take number lines) + 1) answered.given)) front
+      runs = subst (λ t. Runs from start (take (number + 1) lines) new (u.report ++ t)) spelled
+          (subst (λ ls. Runs from start ls new (u.report ++ written_line from (length (take number lines) + 1) answered.given)) front
           (go_on (take number lines) old u.report line new answered.given u.runs answered.happened));
     }
 
 -- one line more was done
-pub goes_on : (script rest line behind : List ℕ) (number : ℕ) (start old new : Scene) (before between after : Option (List ℕ)) → IsUnderWay script rest number start old before between → Next rest line behind
-    → IsDone (number + 1) line old new between after → IsUnderWay script behind (number + 1) start new before after
+pub goes_on : {from : ℕ} (script rest line behind : List ℕ) (number : ℕ) (start old new : Scene) (before between after : Option (List ℕ)) → IsUnderWay from script rest number start old before between → Next rest line behind
+    → IsDone from (number + 1) line old new between after → IsUnderWay from script behind (number + 1) start new before after
 goes_on script rest line behind number start old new before between after u next done =
     let m = one_more script rest line behind done.text number start old new before between u next done.told in
     record {
@@ -94,11 +93,11 @@ goes_on script rest line behind number start old new before between after u next
     }
 
 -- where a script is under way, from its beginning on
-abbrev IsRunning : List ℕ → List ℕ → ℕ → WorldState → Scene → Option (List ℕ) → Option (List ℕ) → Type 0
-IsRunning script rest number start now before after = IsUnderWay script rest number (scene start no_notes) now before after
+abbrev IsRunning : ℕ → List ℕ → List ℕ → ℕ → WorldState → Scene → Option (List ℕ) → Option (List ℕ) → Type 0
+IsRunning from script rest number start now before after = IsUnderWay from script rest number (scene start no_notes) now before after
 
 -- each line was done
-pub ends_whole : (script rest : List ℕ) (number : ℕ) (start : WorldState) (now : Scene) (before after : Option (List ℕ)) → IsRunning script rest number start now before after → rest ≡ [] → Reports script status.Ok start now.world before after
+pub ends_whole : {from : ℕ} (script rest : List ℕ) (number : ℕ) (start : WorldState) (now : Scene) (before after : Option (List ℕ)) → IsRunning from script rest number start now before after → rest ≡ [] → Reports [] from script status.Ok start now.world before after
 ends_whole script rest number start now before after u none =
     let past : drop number (lines_of script) ≡ [] = sym u.left ∙ ap lines_of none ∙ lines_of-nil in
     let all : length (lines_of script) - number ≡ 0 = sym (length-drop number (lines_of script)) ∙ ap length past in
@@ -124,7 +123,7 @@ record IsNext (script line : List ℕ) (number : ℕ) (old : Scene) : Type 0 whe
   fault : fault_where (made_by (take number (lines_of script))) line ≡ fault_where (is_there old.world) line
 
 -- the line that ends a run stands so
-comes_next : (script rest line behind : List ℕ) (number : ℕ) (start old : Scene) (before between : Option (List ℕ)) → IsUnderWay script rest number start old before between → Next rest line behind
+comes_next : {from : ℕ} (script rest line behind : List ℕ) (number : ℕ) (start old : Scene) (before between : Option (List ℕ)) → IsUnderWay from script rest number start old before between → Next rest line behind
     → IsNext script line number old
 comes_next script rest line behind number start old before between u next =
     let lines = lines_of script in
@@ -150,8 +149,8 @@ ends_untold : (script line : List ℕ) (number : ℕ) (old new : Scene) → IsNe
 ends_untold script line number old new n clear begun = record { line = line; there = n.there; clear = n.fault ∙ clear; begun = begun; told = refl }
 
 -- a run ends behind the lines that were done
-ends_behind : (script rest closing : List ℕ) (number : ℕ) (start now : WorldState) (old : Scene) (before between after : Option (List ℕ)) (s : Status) (u : IsRunning script rest number start old before between) → Grows old.world now
-    → Ends s script number old now closing → WritesReport s before after u.report closing → Reports script s start now before after
+ends_behind : {from : ℕ} (script rest closing : List ℕ) (number : ℕ) (start now : WorldState) (old : Scene) (before between after : Option (List ℕ)) (s : Status) (u : IsRunning from script rest number start old before between) → Grows old.world now
+    → Ends s script number old now closing → WritesReport s before after u.report closing → Reports [] from script s start now before after
 ends_behind script rest closing number start now old before between after s u grown ends written = record {
   done = number;
   few = u.few;
@@ -166,24 +165,24 @@ ends_behind script rest closing number start now old before between after s u gr
 }
 
 -- the line is bad, and that was told
-refused : (script rest line behind : List ℕ) (number : ℕ) (start : WorldState) (old new : Scene) (before between after : Option (List ℕ)) → IsRunning script rest number start old before between → Next rest line behind
-    → IsRefused (number + 1) line old new between after → Reports script status.BadLine start new.world before after
+refused : {from : ℕ} (script rest line behind : List ℕ) (number : ℕ) (start : WorldState) (old new : Scene) (before between after : Option (List ℕ)) → IsRunning from script rest number start old before between → Next rest line behind
+    → IsRefused (number + 1) line old new between after → Reports [] from script status.BadLine start new.world before after
 refused script rest line behind number start old new before between after u next bad =
     let ends = ends_badly script line bad.text number old new (comes_next script rest line behind number (scene start no_notes) old before between u next) bad.told in
     ends_behind script rest bad.text number start new.world old before between after status.BadLine u (grows_equal old.world new.world ends.1) ends
     (Appends-trans before between after u.report bad.text u.written bad.written)
 
 -- a limit stopped the line, and that was told
-halted : (script rest line behind : List ℕ) (number : ℕ) (start : WorldState) (old new : Scene) (before between after : Option (List ℕ)) → IsRunning script rest number start old before between → Next rest line behind
-    → IsHalted (number + 1) line old new between after → Reports script status.Limit start new.world before after
+halted : {from : ℕ} (script rest line behind : List ℕ) (number : ℕ) (start : WorldState) (old new : Scene) (before between after : Option (List ℕ)) → IsRunning from script rest number start old before between → Next rest line behind
+    → IsHalted (number + 1) line old new between after → Reports [] from script status.Limit start new.world before after
 halted script rest line behind number start old new before between after u next halt =
     ends_behind script rest halt.text number start new.world old before between after status.Limit u halt.told.2.grown
     (inr (ends_limited script line halt.text number old new (comes_next script rest line behind number (scene start no_notes) old before between u next) halt.told))
     (Appends-trans before between after u.report halt.text u.written halt.written)
 
 -- the sink or memory gave out
-cut_short : (script rest line behind : List ℕ) (number : ℕ) (start : WorldState) (old new : Scene) (before between after : Option (List ℕ)) → IsRunning script rest number start old before between → Next rest line behind
-    → IsCut (number + 1) line old new between after → Reports script status.WriteFault start new.world before after
+cut_short : {from : ℕ} (script rest line behind : List ℕ) (number : ℕ) (start : WorldState) (old new : Scene) (before between after : Option (List ℕ)) → IsRunning from script rest number start old before between → Next rest line behind
+    → IsCut from (number + 1) line old new between after → Reports [] from script status.WriteFault start new.world before after
 cut_short script rest line behind number start old new before between after u next cut =
     let written : AppendsPart before after (u.report ++ cut.text) = part_more before between after u.report cut.text u.written cut.written in
     let n = comes_next script rest line behind number (scene start no_notes) old before between u next in
@@ -212,11 +211,11 @@ cut_short script rest line behind number start old new before between after u ne
     ]
 
 -- memory ran out before anything was written of a line: it wasn't begun, or it was
-untold : (script rest line behind : List ℕ) (number : ℕ) (start : WorldState) (old new : Scene) (before between after : Option (List ℕ)) → IsRunning script rest number start old before between → Next rest line behind
-    → IsUntold line old new between after → Reports script status.NoMemory start new.world before after
-untold script rest line behind number start old new before between after u next none =
+untold : {from : ℕ} (script rest line behind : List ℕ) (number : ℕ) (start : WorldState) (old new : Scene) (before between after : Option (List ℕ)) → IsRunning from script rest number start old before between → Next rest line behind
+    → IsUntold line old new between after → Reports [] from script status.NoMemory start new.world before after
+untold {from} script rest line behind number start old new before between after u next none =
     let n = comes_next script rest line behind number (scene start no_notes) old before between u next in
-    let ends_so : Ends status.NoMemory script number old new.world [] → Grows old.world new.world → Reports script status.NoMemory start new.world before after =
+    let ends_so : Ends status.NoMemory script number old new.world [] → Grows old.world new.world → Reports [] from script status.NoMemory start new.world before after =
     λ ends grown. ends_behind script rest [] number start new.world old before between after status.NoMemory u grown ends
     (inr (refl, subst (Appends before after) (append-nil u.report) (Appends-trans before between after u.report [] u.written none.written)))
     in
@@ -226,8 +225,8 @@ untold script rest line behind number start old new before between after u next 
     ]
 
 -- what a line that ends the run comes to
-pub stops : (script rest line behind : List ℕ) (number : ℕ) (start : WorldState) (old new : Scene) (before between after : Option (List ℕ)) (s : Status) → IsRunning script rest number start old before between → Next rest line behind
-    → LineRuns (Err s) (number + 1) line old new between after → Reports script s start new.world before after
+pub stops : {from : ℕ} (script rest line behind : List ℕ) (number : ℕ) (start : WorldState) (old new : Scene) (before between after : Option (List ℕ)) (s : Status) → IsRunning from script rest number start old before between → Next rest line behind
+    → LineRuns (Err s) from (number + 1) line old new between after → Reports [] from script s start new.world before after
 stops script rest line behind number start old new before between after status.BadLine u next run = refused script rest line behind number start old new before between after u next run
 stops script rest line behind number start old new before between after status.Limit u next run = halted script rest line behind number start old new before between after u next run
 stops script rest line behind number start old new before between after status.WriteFault u next run = cut_short script rest line behind number start old new before between after u next run
@@ -243,25 +242,25 @@ stops script rest line behind number start old new before between after status.U
 stops script rest line behind number start old new before between after status.ReadFault u next run = absurd run
 
 -- what telling a limit comes to
-pub limit_told : (number : ℕ) (line : List ℕ) (old new : Scene) (before after : Option (List ℕ)) (text : List ℕ) (s : Status) → TellsLimit number line old new text → IsLimitStatus s → (s ≡ status.Limit → Appends before after text)
-    → ((s ≡ status.Limit → ⊥) → AppendsPart before after text) → LineRuns (Err s) number line old new before after
-limit_told number line old new before after text status.Limit told is whole part = record { text = text; told = told; written = whole refl }
-limit_told number line old new before after text status.WriteFault told is whole part = record { text = text; told = inr (inr told); written = part (λ e. cc) }
-limit_told number line old new before after text status.NoMemory told is whole part = inr (record { text = text; told = inr (inr told); written = part (λ e. cc) })
-limit_told number line old new before after text status.Ok told is whole part = absurd is
-limit_told number line old new before after text status.Usage told is whole part = absurd is
-limit_told number line old new before after text status.BadLine told is whole part = absurd is
-limit_told number line old new before after text status.ReadFault told is whole part = absurd is
+pub limit_told : (from number : ℕ) (line : List ℕ) (old new : Scene) (before after : Option (List ℕ)) (text : List ℕ) (s : Status) → TellsLimit number line old new text → IsLimitStatus s → (s ≡ status.Limit → Appends before after text)
+    → ((s ≡ status.Limit → ⊥) → AppendsPart before after text) → LineRuns (Err s) from number line old new before after
+limit_told from number line old new before after text status.Limit told is whole part = record { text = text; told = told; written = whole refl }
+limit_told from number line old new before after text status.WriteFault told is whole part = record { text = text; told = inr (inr told); written = part (λ e. cc) }
+limit_told from number line old new before after text status.NoMemory told is whole part = inr (record { text = text; told = inr (inr told); written = part (λ e. cc) })
+limit_told from number line old new before after text status.Ok told is whole part = absurd is
+limit_told from number line old new before after text status.Usage told is whole part = absurd is
+limit_told from number line old new before after text status.BadLine told is whole part = absurd is
+limit_told from number line old new before after text status.ReadFault told is whole part = absurd is
 
 -- a script that was run to its end is without fault
-pub sound_at_end : (script : List ℕ) (start now : WorldState) (before after : Option (List ℕ)) (s : Status) → s ≡ status.Ok → Reports script s start now before after → AreSound (lines_of script)
-sound_at_end script start now before after s ok reports =
-    let r = subst (λ t. Reports script t start now before after) ok reports in
+pub sound_at_end : {from : ℕ} (script : List ℕ) (start now : WorldState) (before after : Option (List ℕ)) (s : Status) → s ≡ status.Ok → Reports [] from script s start now before after → AreSound (lines_of script)
+sound_at_end {from} script start now before after s ok reports =
+    let r = subst (λ t. Reports [] from script t start now before after) ok reports in
     let all : take r.done (lines_of script) ≡ lines_of script = take_all r.done (lines_of script) (omega (arith, r.ends.0)) in
     subst AreSound all r.sound
 
 -- a closing line alone was written, or a part of it
-only_closing : (script closing : List ℕ) (start : WorldState) (before after : Option (List ℕ)) (s : Status) → Ends s script 0 (scene start no_notes) start closing → WritesReport s before after [] closing → Reports script s start start before after
+only_closing : {from : ℕ} (script closing : List ℕ) (start : WorldState) (before after : Option (List ℕ)) (s : Status) → Ends s script 0 (scene start no_notes) start closing → WritesReport s before after [] closing → Reports [] from script s start start before after
 only_closing script closing start before after s ends written = record {
   done = 0;
   few = omega arith;
@@ -276,21 +275,17 @@ only_closing script closing start before after s ends written = record {
 }
 
 -- the source wasn't read: nothing was done or written
-pub unread : (script : List ℕ) (start : WorldState) (before : Option (List ℕ)) → Reports script status.ReadFault start start before before
+pub unread : {from : ℕ} (script : List ℕ) (start : WorldState) (before : Option (List ℕ)) → Reports [] from script status.ReadFault start start before before
 unread script start before = only_closing script [] start before before status.ReadFault (inl (refl, refl)) (inr (refl, Appends-nil before))
 
--- the words aren't a form: nothing was done or written
-pub unused : (script : List ℕ) (start : WorldState) (before : Option (List ℕ)) → Reports script status.Usage start start before before
-unused script start before = only_closing script [] start before before status.Usage (inl (refl, refl)) (inr (refl, Appends-nil before))
-
 -- memory ran out first: nothing was done or written
-pub unwritten : (script : List ℕ) (start : WorldState) (before : Option (List ℕ)) → Reports script status.NoMemory start start before before
+pub unwritten : {from : ℕ} (script : List ℕ) (start : WorldState) (before : Option (List ℕ)) → Reports [] from script status.NoMemory start start before before
 unwritten script start before = only_closing script [] start before before status.NoMemory (inr (inl (refl, refl))) (inr (refl, Appends-nil before))
 
 -- a script that is too long
-pub too_long : (script closing : List ℕ) (start : WorldState) (before after : Option (List ℕ)) (s : Status) → EndsOver script 0 closing → IsLimitStatus s → (s ≡ status.Limit → Appends before after closing)
+pub too_long : {from : ℕ} (script closing : List ℕ) (start : WorldState) (before after : Option (List ℕ)) (s : Status) → EndsOver script 0 closing → IsLimitStatus s → (s ≡ status.Limit → Appends before after closing)
     → ((s ≡ status.Limit → ⊥) → AppendsPart before after closing)
-    → Reports script s start start before after
+    → Reports [] from script s start start before after
 too_long script closing start before after status.Limit over is whole part = only_closing script closing start before after status.Limit (inl (over, refl)) (whole refl)
 too_long script closing start before after status.WriteFault over is whole part = only_closing script closing start before after status.WriteFault (inr (inr (inl (over, refl)))) (part (λ e. cc))
 too_long script closing start before after status.NoMemory over is whole part = only_closing script closing start before after status.NoMemory (inr (inr (inr (inl (over, refl))))) (inl (part (λ e. cc)))
@@ -298,6 +293,15 @@ too_long script closing start before after status.Ok over is whole part = absurd
 too_long script closing start before after status.Usage over is whole part = absurd is
 too_long script closing start before after status.BadLine over is whole part = absurd is
 too_long script closing start before after status.ReadFault over is whole part = absurd is
+
+-- a script within the limits of a script was stopped by a limit of the world
+pub limit_reached : {from : ℕ} (head script : List ℕ) (s : Status) (start now : WorldState) (before after : Option (List ℕ)) → IsWithin script → s ≡ status.Limit → Reports head from script s start now before after → ReachesLimit from script start now
+limit_reached {from} head script s start now before after within is reports =
+    let r = subst (λ t. Reports head from script t start now before after) is reports in
+    elim r.ends [
+      | inl over ↦ absurd (elim over.0.1 [ inl long ↦ omega (arith, long.0, within.0) | inr many ↦ omega (arith, many.1, within.1) ])
+      | inr limited ↦ record { done = r.done; left = r.left; report = r.report; runs = r.runs; closing = r.closing; ends = limited }
+    ]
 
 -- what follows for a value follows for a value that may be known
 pub known : {A : Type 0} (o : Option A) (P Q : A → Type 0) → ((x : A) → P x → Q x) → IfSome o P → IfSome o Q

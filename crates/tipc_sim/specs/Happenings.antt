@@ -220,11 +220,15 @@ which_of limit.Events = which.Events
 which_of limit.Frames = which.Frames
 which_of limit.Journal = which.Journal
 
--- lines were done one after the other, each on what the line before left, and this is their report: a printed line for each,
--- numbered from 1
-pub data Runs (start : Scene) : List (List ℕ) → Scene → List ℕ → Type 0 where
-  begin : Runs start [] start []
+-- the printed line of what is told of a line, where it is written: the lines of the report begin with a number
+abbrev pub written_line : ℕ → ℕ → Told → List ℕ
+written_line from number given = if nat_le from number then told_line number given else []
+
+-- lines were done one after the other, each on what the line before left, and this is their report: a printed line for each from a
+-- number on, where the first line has number 1
+pub data Runs (from : ℕ) (start : Scene) : List (List ℕ) → Scene → List ℕ → Type 0 where
+  begin : Runs from start [] start []
   go_on : (lines : List (List ℕ)) (before : Scene) (report line : List ℕ) (after : Scene) (given : Told)
-      → Runs start lines before report
+      → Runs from start lines before report
       → Happens (asked line) before after given
-      → Runs start (lines ++ line ∷ []) after (report ++ told_line (length lines + 1) given)
+      → Runs from start (lines ++ line ∷ []) after (report ++ written_line from (length lines + 1) given)

@@ -71,25 +71,25 @@ WritesReport status.WriteFault before after report closing = AppendsPart before 
 WritesReport other before after report closing = AppendsPart before after (report ++ closing)
     ⊎ ((closing ≡ []) × Appends before after report)
 
--- What a run of a script came to: its first lines were done, they are without fault, and what was written is their report
--- and a closing line. The world only grew after them.
-pub record Reports (script : List ℕ) (s : Status) (start now : WorldState) (before after : Option (List ℕ)) : Type 0 where
+-- What a run of a script came to: its first lines were done, they are without fault, and what was written is a head, their report from
+-- a number on, and a closing line. The world only grew after them.
+pub record Reports (head : List ℕ) (from : ℕ) (script : List ℕ) (s : Status) (start now : WorldState) (before after : Option (List ℕ)) : Type 0 where
   pub done : ℕ
   pub few : done ≤ length (lines_of script)
   pub sound : AreSound (take done (lines_of script))
   pub left : Scene
   pub report : List ℕ
-  pub runs : Runs (scene start no_notes) (take done (lines_of script)) left report
+  pub runs : Runs from (scene start no_notes) (take done (lines_of script)) left report
   pub grown : Grows left.world now
   pub closing : List ℕ
   pub ends : Ends s script done left now closing
-  pub written : WritesReport s before after report closing
+  pub written : WritesReport s before after (head ++ report) closing
 
 -- a limit of the world stopped a line of a script
-pub record ReachesLimit (script : List ℕ) (start now : WorldState) : Type 0 where
+pub record ReachesLimit (from : ℕ) (script : List ℕ) (start now : WorldState) : Type 0 where
   pub done : ℕ
   pub left : Scene
   pub report : List ℕ
-  pub runs : Runs (scene start no_notes) (take done (lines_of script)) left report
+  pub runs : Runs from (scene start no_notes) (take done (lines_of script)) left report
   pub closing : List ℕ
   pub ends : EndsLimited script done left now closing

@@ -1,7 +1,6 @@
 //! A line is read in its world, and what it asks for is done.
 
 ghost use Rattle.std.specs.Prelude.{◌≡◌, ◌+◌, ◌<◌, ◌≤◌, ◌^◌, ◌||◌, ℕ, true, length, slice_get, IfErr, IfOk, OnOk, find};
-ghost use Rattle.tipc_report.specs.Text.{told_line};
 ghost use Rattle.tipc_world.specs.Events.{CanHappen};
 ghost use Rattle.tipc_replay.specs.Skies.{air_on};
 ghost use Rattle.tipc_replay.specs.States.{counted};
@@ -13,7 +12,7 @@ ghost use Rattle.tipc_script.specs.Faults.{Tells};
 ghost use Rattle.tipc_sim.specs.Nodes.{is_misplaced, fault_where, makes, CanBeDone};
 ghost use Rattle.tipc_world.specs.Courses.{Continues};
 ghost use Rattle.tipc_world.specs.Ends.{place_on};
-ghost use Rattle.tipc_sim.specs.Happenings.{beside, event_of, filter_number, scene, sending, service_event, shown, subscription_event, told_of, told_of_flow, wished, Answers, Composed, Conversed, IsBegun, IsLimited, Moves, Repeated};
+ghost use Rattle.tipc_sim.specs.Happenings.{beside, event_of, filter_number, scene, sending, service_event, shown, subscription_event, told_of, told_of_flow, wished, written_line, Answers, Composed, Conversed, IsBegun, IsLimited, Moves, Repeated};
 ghost use Rattle.tipc_sim.specs.Meanings.{Pumps};
 ghost use Rattle.tipc_sim.specs.Messages.{is_call, low_message, Bursts, SendsAgain};
 ghost use Rattle.tipc_sim.specs.Noted.{pumped, NotesState};
@@ -448,19 +447,22 @@ pub fn answer_of<P: Pick>(
     }
 }
 
-/// The printed line of what is told.
-fn told_text(alloc: Global, number: u32, told: &Told) -> Result<Vec<u8>, NoMemory>
-    ensures { IfOk result (λ text. text.items ≡ told_line number told.now) }
+/// The printed line of what is told; nothing of a line before the first that is written.
+fn told_text(alloc: Global, from: u32, number: u32, told: &Told) -> Result<Vec<u8>, NoMemory>
+    ensures { IfOk result (λ text. text.items ≡ written_line from number told.now) }
 {
     let mut text = Vec::new(alloc);
-    print(number, told, &mut text)?;
+    if from <= number {
+        print(number, told, &mut text)?;
+    }
     Ok(text)
 }
 
-/// Does what a line asks for, and answers the printed line of what is told of it. Where a frame was lost for want of
-/// memory nothing is printed, nor is a limit told that was reached.
+/// Does what a line asks for, and answers the printed line of what is told of it; nothing of a line before the first that is written.
+/// Where a frame was lost for want of memory nothing is printed, nor is a limit told that was reached.
 pub fn do_line<P: Pick>(
     alloc: Global,
+    from: u32,
     number: u32,
     line: Line,
     world: &mut World<P>,
@@ -470,7 +472,7 @@ pub fn do_line<P: Pick>(
     requires good { IsGood P.gives world.old }
     ensures good { IsGood P.gives world.new }
     ensures grows { Grows world.old.state world.new.state }
-    ensures answered { IfOk result (λ text. IsAnswered number line (scene world.old.state notes.old)
+    ensures answered { IfOk result (λ text. IsAnswered from number line (scene world.old.state notes.old)
         (scene world.new.state notes.new) text.items) }
     ensures limited { IfErr result (λ fault. (stop : Limit) → fault ≡ WorldFault.Limit stop →
         IsLimited line (scene world.old.state notes.old) stop world.new.state) }
@@ -481,5 +483,5 @@ pub fn do_line<P: Pick>(
     if world.lost() {
         return Err(WorldFault::NoMemory);
     }
-    Ok(told_text(alloc, number, &came?)?)
+    Ok(told_text(alloc, from, number, &came?)?)
 }

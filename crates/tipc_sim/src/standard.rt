@@ -1,11 +1,11 @@
 //! The run over standard input and output.
 
-ghost use Rattle.std.specs.Prelude.{◌≡◌, ◌⊎◌, ◌↔◌, IfOk, IfErr, [], map, false};
+ghost use Rattle.std.specs.Prelude.{◌≡◌, ◌⊎◌, ◌↔◌, IfOk, IfErr, [], map, None};
 ghost use Rattle.std.specs.Io.Buffered.{writer_buffer};
 ghost use Rattle.std.specs.IoError.{error_kind};
 ghost use Rattle.std.specs.String.{string_bytes};
 ghost use Rattle.tipc_sim.specs.Streams.{failed_reads, failed_writes};
-ghost use Rattle.tipc_sim.specs.Words.{is_run, status_of, words_after_name};
+ghost use Rattle.tipc_sim.specs.Words.{form_of, status_of, words_after_name};
 
 use crate::running::run;
 use crate::status::Status;
@@ -28,7 +28,7 @@ fn run_streams<R: io::Read + Drop, W: io::Write + Drop>(
     output: &mut Output<W>,
 ) -> Status
     requires fresh { (failed_reads input.old.source ≡ 0) × (failed_writes output.old.sink ≡ 0) }
-    ensures usage { (result ≡ Status.Usage) ↔ (is_run (map string_bytes words.now) ≡ false) }
+    ensures usage { (result ≡ Status.Usage) ↔ (form_of (map string_bytes words.now) ≡ None) }
     ensures read { (result ≡ Status.ReadFault) ↔ (failed_reads input.new.source ≡ 1) }
     ensures write { (result ≡ Status.WriteFault) ↔ (failed_reads input.new.source ≡ 0) ×
         (failed_writes output.new.sink ≡ 1) }
@@ -48,7 +48,7 @@ fn run_buffered<R: io::Read + Drop, W: io::Write + Drop>(
     reader: R,
     writer: &mut BufWriter<W>,
 ) -> Status
-    ensures usage { (result ≡ Status.Usage) ↔ (is_run (map string_bytes words.now) ≡ false) }
+    ensures usage { (result ≡ Status.Usage) ↔ (form_of (map string_bytes words.now) ≡ None) }
     ensures flushed { (result ≡ Status.Usage) ⊎ ((result ≡ Status.WriteFault) ⊎ (writer_buffer writer.new ≡ [])) }
 {
     let status = run_streams(
@@ -62,8 +62,8 @@ fn run_buffered<R: io::Read + Drop, W: io::Write + Drop>(
 
 /// Runs the script of standard input where the program's arguments ask for it, and gives out what the run wrote.
 pub fn run_standard(rt: &HostRuntime, args: io::Result<Args>) -> Status
-    ensures usage { result ≡ Status.Usage → IfOk args (λ all. is_run (words_after_name all) ≡ false) }
-    ensures form { IfOk args (λ all. is_run (words_after_name all) ≡ false → (result ≡ Status.Usage) ⊎
+    ensures usage { result ≡ Status.Usage → IfOk args (λ all. form_of (words_after_name all) ≡ None) }
+    ensures form { IfOk args (λ all. form_of (words_after_name all) ≡ None → (result ≡ Status.Usage) ⊎
         (result ≡ Status.NoMemory)) }
     ensures none { IfErr args (λ error. result ≡ status_of (error_kind error)) }
 {

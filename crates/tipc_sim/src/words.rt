@@ -1,15 +1,61 @@
 //! The words after the program's name.
 
-ghost use Rattle.std.specs.Prelude.{◌≡◌, ◌⊎◌, ◌↔◌, OnErr, IfOk, IfErr, Err, drop};
+ghost use Rattle.std.specs.Prelude.{◌≡◌, OnErr, IfOk, IfErr, IfSome, Err, drop, map};
+ghost use Rattle.std.specs.String.{string_bytes};
 ghost use Rattle.std.specs.Vec.Iter.{into_iter_items};
 ghost use Rattle.std.specs.IoError.{error_kind};
-ghost use Rattle.tipc_sim.specs.Words.{status_of};
+ghost use Rattle.tipc_sim.specs.Words.{form_of, generating, running, status_of};
 
 use crate::status::Status;
 use std::alloc::{AllocError, Global};
 use std::env::Args;
 use std::io;
 use std::io::ErrorKind;
+use tipc_script::number_in;
+
+/// The highest number of a generated script.
+const HIGHEST_SEED: u32 = 1000;
+
+/// What the program is asked for. (This project's profile.)
+#[derive(Clone, Copy, Debug, PartialEq, Eq)]
+pub enum Form {
+    /// To run the script of its source.
+    Run,
+    /// To run the script that a number from 1 to 1,000 stands for.
+    Gen(u32),
+}
+
+/// The form of one word: `run`.
+fn running(word: &str) -> Option<Form>
+    ensures { result ≡ running word.now }
+{
+    if word == "run" {
+        return Some(Form::Run);
+    }
+    None
+}
+
+/// The form of two words: `gen` and a number without sign or leading zero.
+fn generating(word: &str, number: &str) -> Option<Form>
+    ensures { result ≡ generating word.now number.now }
+{
+    if word != "gen" {
+        return None;
+    }
+    let seed = number_in(number.as_bytes(), 1, HIGHEST_SEED)?;
+    Some(Form::Gen(seed))
+}
+
+/// The form that the words after the program's name are, if any: `run` alone, or `gen` and a number.
+pub fn form_of(words: &[String]) -> Option<Form>
+    ensures { result ≡ form_of (map string_bytes words.now) }
+{
+    match words {
+        [word] => running(word.as_str()),
+        [word, number] => generating(word.as_str(), number.as_str()),
+        _ => None,
+    }
+}
 
 /// The arguments behind the first, which is the program's name.
 fn behind_name(alloc: Global, args: Args) -> Result<Vec<String>, AllocError>

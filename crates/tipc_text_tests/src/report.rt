@@ -1,7 +1,7 @@
 //! Tests of texts that no script asks for.
 
 use std::test::Fail;
-use tipc_report::{Told, Which, print, print_bad, print_limit};
+use tipc_report::{Told, Which, print, print_bad, print_limit, print_seed};
 use tipc_script::LineWhy;
 use tipc_types::{
     Addr, Answer, Arrival, Body, Bytes, Event, Form, Importance, LinkState, Message, NoMemory,
@@ -189,5 +189,14 @@ fn a_report_is_closed(rt: HostRuntime) -> Result<(), Fail> {
     print_limit(0, Which::Lines, &mut report)?;
     let expected = b"1 -\n2 bad 24 end\n0 limit bytes 16777216\n0 limit lines 65536\n";
     assert_eq!(rt; report.as_slice(), expected.as_slice());
+    Ok(())
+}
+
+#[test]
+fn a_report_of_generated_load_begins_with_its_number(rt: HostRuntime) -> Result<(), Fail> {
+    let mut report = Vec::new(rt.alloc());
+    print_seed(1000, &mut report)?;
+    print(1048, &Told::Quiet, &mut report)?;
+    assert_eq!(rt; report.as_slice(), b"gen 1000\n1048 quiet\n".as_slice());
     Ok(())
 }

@@ -14,5 +14,5 @@ returns-in-Err-Limit-clause-run g c =
     let told = c.tell_limit.ensures in
     let stop = c.in-Err-Limit.limit in
     let limited = subst (λ line. IsLimited line old stop c.do_line.new.world.state) c.in-Ok.ensures.line (c.in-Err-Limit.ensures.limited stop c.in-Err-Limit.field-0-is) in
-    limit_told c.args.number c.args.text.now old new (g.K.Sink.contents c.args.sink.now) (g.K.Sink.contents c.tell_limit.new.sink) (limit_line c.args.number c.which_of.result) c.tell_limit.result
+    limit_told c.args.from c.args.number c.args.text.now old new (g.K.Sink.contents c.args.sink.now) (g.K.Sink.contents c.tell_limit.new.sink) (limit_line c.args.number c.which_of.result) c.tell_limit.result
     (stop, c.in-Ok.ensures.fault, limited, ap (limit_line c.args.number) c.which_of.ensures) told.status told.limit told.part

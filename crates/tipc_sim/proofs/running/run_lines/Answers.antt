@@ -8,7 +8,7 @@ use Rattle.tipc_sim.proofs.running.run_lines.Goals as goal
 
 pub loop-rest-init : goal.loop-rest-init
 loop-rest-init g c = record {
-  under_way = subst (λ n. IsUnderWay c.args.script.now c.args.script.now 0 (scene c.args.world.now.state no_notes) (scene c.args.world.now.state n) (g.K.Sink.contents c.args.sink.now) (g.K.Sink.contents c.args.sink.now)) (sym c.new-notes.ensures) (begins c.args.script.now c.args.world.now.state (g.K.Sink.contents c.args.sink.now) c.requires.empty);
+  under_way = subst (λ n. IsUnderWay c.args.from c.args.script.now c.args.script.now 0 (scene c.args.world.now.state no_notes) (scene c.args.world.now.state n) (g.K.Sink.contents c.args.sink.now) (g.K.Sink.contents c.args.sink.now)) (sym c.new-notes.ensures) (begins c.args.script.now c.args.world.now.state (g.K.Sink.contents c.args.sink.now) c.requires.empty);
   shorter = omega arith;
   good = c.requires.good;
   kept = c.requires.kept;

@@ -10,7 +10,7 @@ decreases-loop-rest g l = length l.rest
 
 abbrev pub invariant-loop-rest : goal.invariant-loop-rest
 invariant-loop-rest g l = record {
-  under_way : IsUnderWay l.script l.rest l.done (scene l.fn.world.state no_notes) (scene l.world.state l.notes) (g.K.Sink.contents l.fn.sink) (g.K.Sink.contents l.sink);
+  under_way : IsUnderWay l.from l.script l.rest l.done (scene l.fn.world.state no_notes) (scene l.world.state l.notes) (g.K.Sink.contents l.fn.sink) (g.K.Sink.contents l.sink);
   shorter : length l.rest ≤ length l.script;
   good : IsGood g.P.Pick.gives l.world;
   kept : l.world.state.lost ≡ false;

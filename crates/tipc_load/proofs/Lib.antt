@@ -1,0 +1,5 @@
+pub mod ClearLines
+pub mod Drawing
+pub mod LoadLines
+pub mod Sound
+pub mod Words
