@@ -1,4 +1,5 @@
 pub mod Casts
+pub mod Deeds
 pub mod Finding
 pub mod FrameLaws
 pub mod Keeping

@@ -1,4 +1,5 @@
 pub mod Casting
 pub mod Contacts
+pub mod Deeds
 pub mod Frames
 pub mod Laws

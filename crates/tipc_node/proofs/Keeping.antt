@@ -20,20 +20,20 @@ use Rattle.tipc_node.specs.Nodes.{NodeState}
 use Rattle.tipc_node.specs.Sharing.{SharesNames}
 use Rattle.tipc_node.specs.Sockets.{kept_answer}
 use Rattle.tipc_node.specs.Telling.{ArePacked, IsTold}
-use Rattle.tipc_node.specs.Turns.{AreNamed}
+use Rattle.tipc_node.specs.Turns.{AreCast, AreNamed}
 use Rattle.tipc_node.specs.Works.{addr_of_word}
 use Rattle.tipc_node.proofs.Kept.{IsKept, arrives_kept, performs_kept, turn_kept}
 use Rattle.tipc_node.proofs.journal.Refusing.{told_found}
 
 -- the invariant of a node, as its fields
 abbrev pub Held : NodeState → Type 0
-Held n = IsTold n × AreNamed n × ArePacked n × SharesNames n × AreFound n
+Held n = IsTold n × AreNamed n × ArePacked n × SharesNames n × AreFound n × AreCast n
 
 pub kept_of : (n : NodeState) → Held n → IsKept n
-kept_of n h = record { told = h.0; named = h.1; packed = h.2; shares = h.3; found = h.4 }
+kept_of n h = record { told = h.0; named = h.1; packed = h.2; shares = h.3; found = h.4; cast = h.5 }
 
 pub held_of : (n : NodeState) → IsKept n → Held n
-held_of n k = (k.told, k.named, k.packed, k.shares, k.found)
+held_of n k = (k.told, k.named, k.packed, k.shares, k.found, k.cast)
 
 -- ---- a call
 

@@ -1,5 +1,5 @@
 -- What always holds of a node stays so: its journal tells of it, its pairs are for the peers of their numbers, its sessions are packed,
--- it shares its names with its peers, and it has a link end to each peer that it found.
+-- it shares its names with its peers, it has a link end to each peer that it found, and its broadcast link has the peers in contact.
 use Rattle.std.proofs.Common.{◌≡◌, ℕ, List, [], None, length}
 use Rattle.tipc_types.specs.declared.node_calls.Answer.{Answer}
 use Rattle.tipc_types.specs.declared.node_calls.Answer.TheVariants as answer
@@ -16,9 +16,11 @@ use Rattle.tipc_node.specs.Nodes.{NodeState, neighbour_of, step_of}
 use Rattle.tipc_node.specs.Sharing.{SharesNames}
 use Rattle.tipc_node.specs.Sockets.{kept_answer}
 use Rattle.tipc_node.specs.Telling.{ArePacked, IsTold}
-use Rattle.tipc_node.specs.Turns.{AreNamed}
+use Rattle.tipc_node.specs.Turns.{AreCast, AreNamed}
 use Rattle.tipc_node.proofs.journal.ArrivalTold.{arrives_told}
+use Rattle.tipc_broadcast.specs.Casting.{booted}
 use Rattle.tipc_node.proofs.turns.Arrivals.{arrives_turn}
+use Rattle.tipc_node.proofs.turns.CastKept.{new_cast, turn_cast}
 use Rattle.tipc_node.proofs.journal.FirstTold.{new_told}
 use Rattle.tipc_node.proofs.turns.Discovery.{boot_low}
 use Rattle.tipc_node.proofs.turns.FoundKept.{arrives_found, new_are_found, performs_found}
@@ -35,16 +37,18 @@ pub record IsKept (n : NodeState) : Type 0 where
   pub packed : ArePacked n
   pub shares : SharesNames n
   pub found : AreFound n
+  pub cast : AreCast n
 
 -- a node that knows nobody
 pub new_kept : (n : NodeState) → IsBoot n.boot → n.sockets ≡ no_sockets n.own n.boot → AreSockets n.sockets → n.journal ≡ [] → ((peer : ℕ) → neighbour_of n peer ≡ None)
-    → n.found ≡ nobody_heard n.own → IsKept n
-new_kept n boot none sound empty nobody unheard = record {
+    → n.found ≡ nobody_heard n.own → n.casting ≡ booted n.own n.boot → IsKept n
+new_kept n boot none sound empty nobody unheard fresh = record {
   told = new_told n none sound empty nobody;
   named = new_named n boot nobody;
   packed = new_packed n nobody;
   shares = new_shares n empty;
   found = new_are_found n nobody unheard;
+  cast = new_cast n n.own n.boot nobody fresh;
 }
 
 -- a step was recorded
@@ -55,13 +59,14 @@ turn_kept n n' by note bytes kept frames k t = record {
   packed = turn_packed n n' bytes (step_of by note t.inside kept) frames k.told k.packed t.turn;
   shares = t.shared;
   found = t.found;
+  cast = turn_cast n n' bytes (step_of by note t.inside kept) frames k.told k.cast t.turn;
 }
 
 -- a call; a publication of it has a range with instances
 pub performs_kept : (n n' : NodeState) (by : By) (call : EventNote) (frames : List Outgoing) (answered : Answer) → IsKept n → CanPerform call → HasInstances call → Performs n by call n' frames answered → AreSockets n'.sockets
     → length n'.neighbours ≡ 33 → CallTurn n n' by call [] (kept_answer answered) frames
 performs_kept n n' by call frames answered k can ranges performs sound wide =
-    let t = performs_turn n n' by call frames answered k.named (boot_low n k.told k.named) can performs in
+    let t = performs_turn n n' by call frames answered k.named (boot_low n k.told k.named) k.cast can performs in
     let told = performs_told n n' by call frames answered k.told k.packed performs t.0 t.1 sound in
     record {
       inside = t.0;
@@ -76,7 +81,7 @@ performs_kept n n' by call frames answered k can ranges performs sound wide =
 pub arrives_kept : (n n' : NodeState) (by : By) (bearer number : ℕ) (bytes : List ℕ) (frames : List Outgoing) (answered : Arrival) → IsKept n → Arrives n n' by bearer number bytes frames answered → AreSockets n'.sockets
     → CallTurn n n' by (event.Arrive bearer number) bytes (answer.Arrived answered) frames
 arrives_kept n n' by bearer number bytes frames answered k arrives sound =
-    let t = arrives_turn n n' by bearer number bytes frames answered k.named k.found (boot_low n k.told k.named) arrives in
+    let t = arrives_turn n n' by bearer number bytes frames answered k.named k.found k.cast (boot_low n k.told k.named) arrives in
     let told = arrives_told n n' by bearer number bytes frames answered k.told arrives t.0 t.1 sound in
     record {
       inside = t.0;

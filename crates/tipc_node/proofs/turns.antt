@@ -1,5 +1,6 @@
 -- Each call and each arrival is a turn of the node: one recorded step, and what happens at each pair.
 pub mod Arrivals
+pub mod CastKept
 pub mod Discovering
 pub mod Entries
 pub mod Discovery

@@ -2,6 +2,7 @@
 pub mod Announcing
 pub mod Answering
 pub mod Arriving
+pub mod Casting
 pub mod Changes
 pub mod Deliveries
 pub mod Delivering

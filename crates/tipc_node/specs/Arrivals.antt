@@ -1,7 +1,8 @@
 -- What an arrival makes of a node, exactly.
-use Rattle.std.specs.Prelude.{◌≡◌, ◌≤◌, ◌<◌, ◌^◌, ℕ, Bool, true, false, List, [], ◌++◌, None, Some, is_some, length, slice_index_or, slice_set}
+use Rattle.std.specs.Prelude.{◌≡◌, ◌≤◌, ◌<◌, ◌^◌, ℕ, Bool, true, false, List, [], ◌++◌, Option, None, Some, is_some, length, slice_index_or, slice_set}
 use Rattle.tipc_types.specs.declared.message_forms.Flow.TheVariants.{Zero}
 use Rattle.tipc_types.specs.Address.{node_word}
+use Rattle.tipc_types.specs.declared.link_words.BroadcastState.{BroadcastState}
 use Rattle.tipc_types.specs.declared.link_words.Why.{Why}
 use Rattle.tipc_types.specs.declared.message_forms.Message.{Message}
 use Rattle.tipc_types.specs.declared.node_calls.Answer.TheVariants as answer
@@ -19,10 +20,14 @@ use Rattle.tipc_header.specs.Spelling.{Fields, spelling}
 use Rattle.tipc_discovery.specs.Hearing.{is_of_network}
 use Rattle.tipc_name_dist.specs.Items.{IsBulk}
 use Rattle.tipc_pair.specs.declared.transitions.Transition.{Transition}
-use Rattle.tipc_pair.specs.Courses.{sent_in}
+use Rattle.tipc_broadcast.specs.Casting.{Casting, shown}
+use Rattle.tipc_broadcast.specs.Contacts.{contact_with}
+use Rattle.tipc_broadcast.specs.Deeds.{CastDeed, after_deeds, deeds_frames}
+use Rattle.tipc_pair.specs.Courses.{Course, sent_in}
 use Rattle.tipc_pair.specs.PairTurns.{Outset}
 use Rattle.tipc_node.specs.declared.neighbours.Neighbour.{Neighbour}
 use Rattle.tipc_node.specs.Calls.{CallTurn}
+use Rattle.tipc_node.specs.Casting.{arrival_deeds, asks_of, stated_in}
 use Rattle.tipc_node.specs.Discovery.{discovered_frames, discovered_node, responses}
 use Rattle.tipc_node.specs.Neighbours.{HearsAt, answered_neighbour, answering, heard_neighbour}
 use Rattle.tipc_pair.specs.Contacts.{begins}
@@ -43,10 +48,17 @@ pub record IsDue (n : NodeState) (bytes : List ℕ) (bearer peer first second : 
   pub there : is_some (end_with bearer (neighbour_of n peer)) ≡ true
 
 -- the work on an arrival before anything is delivered: the pair heard the packet, and what became of the links and the contact is noted
-abbrev pub heard_work : NodeState → ℕ → Neighbour → Fields → Outset → Work
-heard_work n peer x p o =
-    noted (record (begun n) { neighbours = slice_set n.neighbours peer (Some (heard_neighbour x p o)) })
+abbrev pub heard_work : NodeState → ℕ → Neighbour → Outset → Work
+heard_work n peer x o =
+    noted (record (begun n) { neighbours = slice_set n.neighbours peer (Some (heard_neighbour x o)) })
     (change_entries peer o.course.changes)
+
+-- what it makes of the broadcast link, and that link then
+abbrev pub heard_deeds : ℕ → Fields → Outset → List CastDeed
+heard_deeds peer p o = arrival_deeds peer o.course.changes (stated_in p.header o.given)
+
+abbrev pub heard_casting : NodeState → ℕ → Fields → Outset → Casting
+heard_casting n peer p o = after_deeds (heard_deeds peer p o) n.casting
 
 -- the messages with which a contact begins tell the peer of the live publications; where no contact begins there are none
 abbrev pub GreetsWhere : Bool → List Publication → List Message → Type 0
@@ -57,14 +69,29 @@ GreetsWhere false live ms = ms ≡ []
 abbrev pub Greets : List Publication → List Transition → List Message → Type 0
 Greets live changes ms = GreetsWhere (begins changes) live ms
 
+-- what is asked for by the broadcast, and what is shown of it, where a packet told this of it
+abbrev pub asks_peer : ℕ → Option BroadcastState → Casting → Bool
+asks_peer peer stated v = asks_of stated (contact_with (node_word peer) v.contacts)
+
+-- the STATE that is due to the neighbour of that number on a bearer, with this broadcast link
+abbrev pub last_course : ℕ → ℕ → Option BroadcastState → Casting → Neighbour → Course
+last_course peer bearer stated v y = answering bearer (asks_peer peer stated v) (shown v (node_word peer)) y
+
+-- that neighbour when it has left
+abbrev pub last_neighbour : ℕ → ℕ → Option BroadcastState → Casting → Neighbour → Neighbour
+last_neighbour peer bearer stated v y = answered_neighbour bearer (asks_peer peer stated v) (shown v (node_word peer)) y
+
 -- the neighbour of that number sends the STATE that is due on a bearer
-abbrev pub answered_work : Work → ℕ → ℕ → Neighbour → Work
-answered_work w peer bearer y =
-    record w { neighbours = slice_set w.neighbours peer (Some (answered_neighbour bearer y)) }
+abbrev pub with_answer : Work → ℕ → ℕ → Bool → BroadcastState → Neighbour → Work
+with_answer w peer bearer asks shown y = record w { neighbours = slice_set w.neighbours peer (Some (answered_neighbour bearer asks shown y)) }
+
+abbrev pub answered_work : Work → ℕ → ℕ → Option BroadcastState → Casting → Neighbour → Work
+answered_work w peer bearer stated v y = with_answer w peer bearer (asks_peer peer stated v) (shown v (node_word peer)) y
 
 -- The frame of that number brought a packet of a peer on a bearer. Where a contact began by it, the peer was told of the live
--- publications. What the links made of the packet was opened, and delivered one after the other, returns went back, and the STATE that
--- was due on the bearer left last.
+-- publications. The broadcast link was told of the contact, and of a STATE that was taken. What the links made of the packet was opened, and
+-- delivered one after the other, returns went back, and the STATE that was due on the bearer left last. (A contact that ends has no greeting, and
+-- a STATE gives nothing to return: so packets that are numbered leave before those of the broadcast link.)
 pub record Hears (n n' : NodeState) (by : By) (bearer number : ℕ) (bytes : List ℕ) (frames : List Outgoing) (answered : Arrival) : Type 0 where
   pub peer : ℕ
   pub first : ℕ
@@ -74,19 +101,21 @@ pub record Hears (n n' : NodeState) (by : By) (bearer number : ℕ) (bytes : Lis
   pub neighbour : Neighbour
   pub was : neighbour_of n peer ≡ Some neighbour
   pub out : Outset
-  pub hears : HearsAt neighbour bearer first second packet number out
+  pub hears : HearsAt neighbour bearer first second packet number (shown n.casting (node_word peer)) out
   pub greeting : List Message
   pub greets : Greets n.sockets.live out.course.changes greeting
   pub greeted : Work
   pub greeting_frames : List Outgoing
-  pub greeting_put : PutsEach n.own peer (heard_work n peer neighbour packet out) greeting greeted greeting_frames
+  pub greeting_put : PutsEach n.own peer (heard_work n peer neighbour out) greeting greeted greeting_frames
   pub work : Work
   pub returned : List Outgoing
   pub delivers : DeliversAll n.own peer greeted (arrival_deliveries Zero peer neighbour.pair out.given) work returned
   pub then : Neighbour
   pub then_is : slice_index_or work.neighbours peer None ≡ Some then
-  pub after : n' ≡ concluded n by (Arrive bearer number) (answered_work work peer bearer then) (answer.Arrived answered)
-  pub frames_are : frames ≡ sent_in out.course ++ (greeting_frames ++ (returned ++ (answering bearer then).states))
+  pub after : n' ≡ concluded (record n { casting = heard_casting n peer packet out }) by (Arrive bearer number)
+      (answered_work work peer bearer (stated_in packet.header out.given) (heard_casting n peer packet out) then) (answer.Arrived answered)
+  pub frames_are : frames ≡ sent_in out.course ++ (greeting_frames ++ (deeds_frames (heard_deeds peer packet out) n.casting
+      ++ (returned ++ (last_course peer bearer (stated_in packet.header out.given) (heard_casting n peer packet out) then).states)))
   pub answer_is : answered ≡ arrival_answer out.given (arrival_deliveries Zero peer neighbour.pair out.given)
 
 -- ---- discovery

@@ -9,6 +9,7 @@ use Rattle.tipc_types.specs.declared.node_calls.EventNote.TheVariants.{Socket, C
 use Rattle.tipc_types.specs.declared.services.Publication.{Publication}
 use Rattle.tipc_outside.specs.declared.outgoing.Outgoing.{Outgoing}
 use Rattle.tipc_outside.specs.Frames.{Adds, Out}
+use Rattle.tipc_broadcast.specs.Deeds.{after_deeds}
 use Rattle.tipc_journal.specs.declared.entries.Entry.{Entry}
 use Rattle.tipc_journal.specs.Licensed.{IsPickedOf, next_answer}
 use Rattle.tipc_journal.specs.Refusals.{longest_body}
@@ -19,7 +20,7 @@ use Rattle.tipc_node.specs.declared.neighbours.Upkeep.{Upkeep}
 use Rattle.tipc_node.specs.declared.neighbours.Upkeep.TheVariants as upkeep
 use Rattle.tipc_node.specs.Discovery.{AreFound, next_tick, upkeep_frames}
 use Rattle.tipc_node.specs.Messages.{direct, limit_of, named}
-use Rattle.tipc_node.specs.Nodes.{NodeState, after_all, entries_all, mended_by, step_of}
+use Rattle.tipc_node.specs.Nodes.{NodeState, after_all, entries_all, mended_by, parts_of, step_of, upkeep_deeds}
 use Rattle.tipc_node.specs.Plans.{CarriesOut, Plan, frames_alone, message_plan, names_plan, or_else, tables_plan}
 use Rattle.tipc_node.specs.Sockets.{cancelled_work, closed_work, first_answer, first_event, found_at, kept_answer, next_number, next_port, next_work, number_refusal, passed_work, port_refusal, publication_refusal, published_work, received_work, socket_refusal, subscribed_work, subscription_refusal, timeouts_of, told_closing, told_withdrawal, waiting_at, with_sockets_of, withdrawal_refusal, withdrawn_work}
 use Rattle.tipc_node.specs.Sharing.{SharesNames}
@@ -54,11 +55,15 @@ IsPickedFrom gives turn n other answered = Unit {0}
 
 -- the work on it
 abbrev pub upkeep_work : Upkeep → NodeState → Work
-upkeep_work d n = noted (record (begun n) { neighbours = after_all d n.neighbours }) (entries_all d 0 n.neighbours)
+upkeep_work d n = noted (record (begun n) { neighbours = after_all (parts_of d n) }) (entries_all 0 (parts_of d n))
 
 -- a bearer is mended, on which a request leaves, or cut
 abbrev pub upkeep_plan : NodeState → Upkeep → Plan
-upkeep_plan n d = record (tables_plan n None (upkeep_work d n) answer.Done) { mended = mended_by d n.mended; dispatch = frames_alone (upkeep_frames d n) }
+upkeep_plan n d = record (tables_plan n None (upkeep_work d n) answer.Done) {
+  mended = mended_by d n.mended;
+  casting = after_deeds (upkeep_deeds d n) n.casting;
+  dispatch = frames_alone (upkeep_frames d n);
+}
 
 -- the work on a tick: it happens to all neighbours; then subscriptions time out, and it passes for the others
 abbrev pub tick_work : NodeState → Work
@@ -66,7 +71,11 @@ tick_work n = passed_work (noted (upkeep_work upkeep.Tick n) (timeouts_of n.sock
 
 -- a tick passes and is counted, and the node asks who is there where it is time for that
 abbrev pub tick_plan : NodeState → Plan
-tick_plan n = record (tables_plan n None (tick_work n) answer.Done) { ticks = next_tick n.ticks; dispatch = frames_alone (upkeep_frames upkeep.Tick n) }
+tick_plan n = record (tables_plan n None (tick_work n) answer.Done) {
+  ticks = next_tick n.ticks;
+  casting = after_deeds (upkeep_deeds upkeep.Tick n) n.casting;
+  dispatch = frames_alone (upkeep_frames upkeep.Tick n);
+}
 
 -- ---- a call of a user, of the clock, or of a bearer
 

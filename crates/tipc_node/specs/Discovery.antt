@@ -13,13 +13,14 @@ use Rattle.tipc_header.specs.Spelling.{spelling}
 use Rattle.tipc_discovery.specs.declared.neighbours.Found.{Found}
 use Rattle.tipc_discovery.specs.declared.neighbours.Found.TheVariants.{New}
 use Rattle.tipc_discovery.specs.Hearing.{Neighbourhood, discovery_packet, heard_on}
+use Rattle.tipc_broadcast.specs.Deeds.{deeds_frames}
 use Rattle.tipc_pair.specs.Courses.{Course}
 use Rattle.tipc_pair.specs.Facing.{is_up_at}
 use Rattle.tipc_node.specs.declared.neighbours.Neighbour.{Neighbour}
 use Rattle.tipc_node.specs.declared.neighbours.Upkeep.{Upkeep}
 use Rattle.tipc_node.specs.declared.neighbours.Upkeep.TheVariants as upkeep
-use Rattle.tipc_node.specs.Neighbours.{making, neighbour, stranger}
-use Rattle.tipc_node.specs.Nodes.{NodeState, after_all, end_with, is_mended_on, kept, neighbour_of, numbered_all, states_all, with_neighbours}
+use Rattle.tipc_node.specs.Neighbours.{making, stranger, with_pair}
+use Rattle.tipc_node.specs.Nodes.{NodeState, after_all, end_with, is_mended_on, kept, neighbour_of, numbered_all, parts_of, states_all, upkeep_deeds, with_neighbours}
 
 -- ---- frames of discovery
 
@@ -78,7 +79,7 @@ found_course n peer bearer = making bearer (kept n peer)
 
 -- what is kept of the peer then
 abbrev pub found_neighbour : NodeState → ℕ → ℕ → Neighbour
-found_neighbour n peer bearer = neighbour (found_course n peer bearer).pair (kept n peer).in_step
+found_neighbour n peer bearer = with_pair (kept n peer) (found_course n peer bearer).pair
 
 -- the frames that leave then: the RESET of the new end
 abbrev pub found_frames : NodeState → ℕ → ℕ → List Outgoing
@@ -105,7 +106,7 @@ discovered_frames n peer bearer = if has_found n bearer peer then [] else found_
 -- what is kept of a peer, which may be a stranger still, when the link end to it is made on a bearer
 abbrev pub made_end : ℕ → ℕ → ℕ → ℕ → Option Neighbour → Neighbour
 made_end own boot peer bearer place =
-    neighbour (making bearer (unwrap_or place (stranger own peer boot))).pair (unwrap_or place (stranger own peer boot)).in_step
+    with_pair (unwrap_or place (stranger own peer boot)) (making bearer (unwrap_or place (stranger own peer boot))).pair
 
 -- the neighbours of a node where a peer on a bearer was heard: one that is new has its link end
 abbrev pub welcomed : ℕ → ℕ → Found → ℕ → ℕ → List (Option Neighbour) → List (Option Neighbour)
@@ -130,7 +131,7 @@ has_link_up bearer xs = list_any (λ x. is_up_at (end_with bearer x)) xs
 -- Whether a node asks at a tick who is there on a bearer: the bearer is mended, and no link is up on it when the tick has passed at all
 -- neighbours, or the tick is an eighth.
 abbrev pub asks_on : NodeState → ℕ → Bool
-asks_on n bearer = is_mended_on n.mended bearer && (not (has_link_up bearer (after_all upkeep.Tick n.neighbours)) || (next_tick n.ticks == 0))
+asks_on n bearer = is_mended_on n.mended bearer && (not (has_link_up bearer (after_all (parts_of upkeep.Tick n))) || (next_tick n.ticks == 0))
 
 -- the request on a bearer, where the node asks there at a tick
 abbrev pub tick_requests : NodeState → ℕ → List Outgoing
@@ -142,7 +143,8 @@ requests_by (upkeep.Mend bearer) n = request_on n bearer ∷ []
 requests_by (upkeep.Cut bearer) n = []
 requests_by upkeep.Tick n = tick_requests n 0 ++ tick_requests n 1
 
--- all frames that leave then: those of link states and of repeated packets by peer, then the requests, and then those of packets that are
--- numbered, by peer again
+-- all frames that leave then: those of link states and of repeated packets by peer, then the requests, then those of packets that are
+-- numbered, by peer again, and then those of broadcast packets
 abbrev pub upkeep_frames : Upkeep → NodeState → List Outgoing
-upkeep_frames d n = (states_all d n.neighbours ++ requests_by d n) ++ numbered_all d n.neighbours
+upkeep_frames d n =
+    (states_all (parts_of d n) ++ requests_by d n) ++ (numbered_all (parts_of d n) ++ deeds_frames (upkeep_deeds d n) n.casting)

@@ -1,11 +1,13 @@
 pub mod Arrivals
 pub mod Calls
+pub mod Casting
 pub mod Drafts
 pub mod Discovery
 pub mod Hearings
 pub mod Messages
 pub mod Neighbours
 pub mod Nodes
+pub mod Partings
 pub mod Plans
 pub mod Sharing
 pub mod Sockets

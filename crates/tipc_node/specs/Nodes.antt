@@ -42,11 +42,14 @@ use Rattle.tipc_node.specs.declared.neighbours.Upkeep.{Upkeep}
 use Rattle.tipc_node.specs.declared.neighbours.Upkeep.TheVariants as upkeep
 use Rattle.tipc_types.specs.Limits.{most_frame_bytes}
 use Rattle.tipc_node.specs.Messages.{message_in}
-use Rattle.tipc_node.specs.Neighbours.{done, stranger}
+use Rattle.tipc_broadcast.specs.Casting.{Casting, shown}
+use Rattle.tipc_broadcast.specs.Deeds.{CastDeed, after_deeds}
+use Rattle.tipc_node.specs.Casting.{bearer_deeds, contact_deeds}
+use Rattle.tipc_node.specs.Neighbours.{Done, done, stranger}
 use Rattle.tipc_pair.specs.LinkReadings.{active_load}
 
 -- a node: its address word, its boot number, whether bearer 0 is mended and whether bearer 1 is, who was heard on which of them, the ticks
--- of this boot modulo 8, its neighbours by number, its sockets, and its journal
+-- of this boot modulo 8, its neighbours by number, its sockets, its journal, and its broadcast link
 pub record NodeState : Type 0 where
   pub own : ℕ
   pub boot : ℕ
@@ -56,6 +59,7 @@ pub record NodeState : Type 0 where
   pub neighbours : List (Option Neighbour)
   pub sockets : SocketTable
   pub journal : List Entry
+  pub casting : Casting
 
 -- what node n keeps of a peer
 abbrev pub neighbour_of : NodeState → ℕ → Option Neighbour
@@ -106,49 +110,82 @@ is_change other = false
 
 -- ---- what happens to all neighbours alike, in order of their numbers
 
+-- what becomes of the neighbour of that number, where there is one: a STATE shows what the broadcast link has for it then
+abbrev pub part_at : Upkeep → ℕ → Casting → Option Neighbour → Option Done
+part_at d number v None = None
+part_at d number v (Some x) = Some (done d (shown v (node_word number)) x)
+
+-- what is told of the neighbour at a place
+abbrev pub changes_at : Option Done → List Transition
+changes_at None = []
+changes_at (Some x) = x.changes
+
+-- what becomes of all neighbours, of which the first has that number: of each with all its consequences before the next one, since a peer with
+-- which the contact ends leaves the broadcast link
+unfoldable pub part_all : Upkeep → ℕ → Casting → List (Option Neighbour) → List (Option Done)
+part_all d number v [] = []
+part_all d number v (x ∷ xs) =
+    part_at d number v x ∷ part_all d (number + 1) (after_deeds (contact_deeds number (changes_at (part_at d number v x))) v) xs
+
 -- the neighbour at a place after that, where there is one
-abbrev pub after_one : Upkeep → Option Neighbour → Option Neighbour
-after_one d None = None
-after_one d (Some x) = Some (done d x).after
+abbrev pub after_one : Option Done → Option Neighbour
+after_one None = None
+after_one (Some x) = Some x.after
 
 -- the frames of link states and of repeated packets that leave for the neighbour at a place
-abbrev pub states_one : Upkeep → Option Neighbour → List Outgoing
-states_one d None = []
-states_one d (Some x) = (done d x).states
+abbrev pub states_one : Option Done → List Outgoing
+states_one None = []
+states_one (Some x) = x.states
 
 -- the frames of packets that are numbered then for the neighbour at a place
-abbrev pub numbered_one : Upkeep → Option Neighbour → List Outgoing
-numbered_one d None = []
-numbered_one d (Some x) = (done d x).numbered
+abbrev pub numbered_one : Option Done → List Outgoing
+numbered_one None = []
+numbered_one (Some x) = x.numbered
 
 -- what is recorded of the links to the neighbour of that number, and of the contact with it
-abbrev pub entries_one : Upkeep → ℕ → Option Neighbour → List Entry
-entries_one d number None = []
-entries_one d number (Some x) = change_entries number (done d x).changes
+abbrev pub entries_one : ℕ → Option Done → List Entry
+entries_one number x = change_entries number (changes_at x)
+
+-- what the neighbour of that number makes of the broadcast link
+abbrev pub deeds_one : ℕ → Option Done → List CastDeed
+deeds_one number x = contact_deeds number (changes_at x)
 
 -- all neighbours after that
-unfoldable pub after_all : Upkeep → List (Option Neighbour) → List (Option Neighbour)
-after_all d xs = map (after_one d) xs
+unfoldable pub after_all : List (Option Done) → List (Option Neighbour)
+after_all xs = map after_one xs
 
 -- the frames of link states and of repeated packets for all neighbours
-unfoldable pub states_all : Upkeep → List (Option Neighbour) → List Outgoing
-states_all d xs = flat_map (states_one d) xs
+unfoldable pub states_all : List (Option Done) → List Outgoing
+states_all xs = flat_map states_one xs
 
 -- the frames of packets that are numbered then, for all neighbours
-unfoldable pub numbered_all : Upkeep → List (Option Neighbour) → List Outgoing
-numbered_all d xs = flat_map (numbered_one d) xs
+unfoldable pub numbered_all : List (Option Done) → List Outgoing
+numbered_all xs = flat_map numbered_one xs
 
 -- the frames for one neighbour, and for all, in the groups in which they leave: by peer in each
-abbrev pub made_one : Upkeep → Option Neighbour → Made
-made_one d o = record { first = states_one d o; behind = numbered_one d o }
+abbrev pub made_one : Option Done → Made
+made_one x = record { first = states_one x; behind = numbered_one x }
 
-abbrev pub made_all : Upkeep → List (Option Neighbour) → Made
-made_all d xs = record { first = states_all d xs; behind = numbered_all d xs }
+abbrev pub made_all : List (Option Done) → Made
+made_all xs = record { first = states_all xs; behind = numbered_all xs }
 
 -- what is recorded of the links to all neighbours, of which the first has that number
-unfoldable pub entries_all : Upkeep → ℕ → List (Option Neighbour) → List Entry
-entries_all d number [] = []
-entries_all d number (x ∷ xs) = entries_one d number x ++ entries_all d (number + 1) xs
+unfoldable pub entries_all : ℕ → List (Option Done) → List Entry
+entries_all number [] = []
+entries_all number (x ∷ xs) = entries_one number x ++ entries_all (number + 1) xs
+
+-- what all neighbours make of the broadcast link
+unfoldable pub deeds_all : ℕ → List (Option Done) → List CastDeed
+deeds_all number [] = []
+deeds_all number (x ∷ xs) = deeds_one number x ++ deeds_all (number + 1) xs
+
+-- what becomes of all neighbours of a node where a bearer is mended or cut, or a tick passes: the broadcast link is told of the bearer first
+unfoldable pub parts_of : Upkeep → NodeState → List (Option Done)
+parts_of d n = part_all d 0 (after_deeds (bearer_deeds d) n.casting) n.neighbours
+
+-- what that makes of the broadcast link
+abbrev pub upkeep_deeds : Upkeep → NodeState → List CastDeed
+upkeep_deeds d n = bearer_deeds d ++ deeds_all 0 (parts_of d n)
 
 -- the same of the peer at a place, where there is one
 abbrev pub load_with : Option Neighbour → Option (ℕ × ℕ)
@@ -178,9 +215,9 @@ load_on bearer x = link_load (end_with bearer x)
 unfoldable pub load_all : List (Option Neighbour) → ℕ × ℕ
 load_all xs = (sum_by (λ x. (load_on 0 x).0 + (load_on 1 x).0) xs, sum_by (λ x. (load_on 0 x).1 + (load_on 1 x).1) xs)
 
--- how many packets are unacknowledged and how many wait on all links of a node together that are up
+-- how many packets are unacknowledged and how many wait on all links of a node together that are up, and on its broadcast link
 abbrev pub node_load : NodeState → ℕ × ℕ
-node_load n = load_all n.neighbours
+node_load n = ((load_all n.neighbours).0 + length n.casting.sending.unacked, (load_all n.neighbours).1 + length n.casting.sending.waiting)
 
 -- the entry of a message that is accepted in a flow for a peer, to which this is the pair
 abbrev pub accepted_entry : Flow → ℕ → PairEnds → Message → Entry

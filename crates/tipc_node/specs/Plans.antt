@@ -9,6 +9,7 @@ use Rattle.tipc_types.specs.declared.node_calls.By.{By}
 use Rattle.tipc_types.specs.declared.node_calls.EventNote.{EventNote}
 use Rattle.tipc_outside.specs.declared.outgoing.Outgoing.{Outgoing}
 use Rattle.tipc_journal.specs.Dues.{comes_home}
+use Rattle.tipc_broadcast.specs.Casting.{Casting}
 use Rattle.tipc_node.specs.Messages.{destination_of}
 use Rattle.tipc_node.specs.Nodes.{NodeState, load_with, recorded}
 use Rattle.tipc_node.specs.Sockets.{crowd_refusal, kept_answer}
@@ -39,7 +40,7 @@ pub data Dispatch : Type 0 where
   on_its_way : Message → Dispatch
 
 -- A call's plan. It is refused for this reason, where there is one. Else this is its work on the node's own tables, with what is noted of it, then
--- it sends this, and it is answered; the bearers that are mended and the ticks are these ones then.
+-- it sends this, and it is answered; the bearers that are mended, the ticks and the broadcast link are these ones then.
 pub record Plan : Type 0 where
   pub refusal : Option Answer
   pub work : Work
@@ -47,6 +48,7 @@ pub record Plan : Type 0 where
   pub answered : Answer
   pub mended : Bool × Bool
   pub ticks : ℕ
+  pub casting : Casting
 
 -- the first of two reasons that there is
 abbrev pub or_else : Option Answer → Option Answer → Option Answer
@@ -56,7 +58,7 @@ or_else (Some reason) other = Some reason
 -- the node's own tables change, and nothing leaves
 abbrev pub tables_plan : NodeState → Option Answer → Work → Answer → Plan
 tables_plan n refusal w answered =
-    record { refusal = refusal; work = w; dispatch = frames_alone []; answered = answered; mended = n.mended; ticks = n.ticks }
+    record { refusal = refusal; work = w; dispatch = frames_alone []; answered = answered; mended = n.mended; ticks = n.ticks; casting = n.casting }
 
 -- the own names change, and every peer in contact is told; last it is refused since too many packets wait for a peer that is to be told
 abbrev pub names_plan : NodeState → Option Answer → Work → List Message → Plan
@@ -71,7 +73,7 @@ message_plan n refusal m limit sent =
 
 -- the node where the step of a call is recorded behind this work
 abbrev pub concluded_by : NodeState → By → EventNote → Plan → Work → NodeState
-concluded_by n by call p last = concluded (record n { mended = p.mended; ticks = p.ticks }) by call last (kept_answer p.answered)
+concluded_by n by call p last = concluded (record n { mended = p.mended; ticks = p.ticks; casting = p.casting }) by call last (kept_answer p.answered)
 
 -- nothing speaks against a call: what it sends leaves behind its work, and its step is recorded
 abbrev pub Does : Dispatch → NodeState → By → EventNote → Plan → NodeState → List Outgoing → Answer → Type 0

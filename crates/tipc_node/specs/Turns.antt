@@ -1,7 +1,7 @@
 -- What a node does in one event, in one form for all of them: it records a step, and at the pair to each peer it takes a turn, of which the
 -- step tells. What else changes (sockets, say) is beside it.
 use Rattle.std.specs.Prelude.{◌≡◌, ◌⊎◌, ◌<◌, ◌≤◌, ◌^◌, ℕ, ◌==◌, ◌&&◌, Bool, true, false, List, [], ◌∷◌, ◌++◌, Option, Some, None, filter, is_some, map, option_map}
-use Rattle.std.specs.List.{All, flat_map}
+use Rattle.std.specs.List.{All, flat_map, list_all}
 use Rattle.tipc_types.specs.Address.{node_word}
 use Rattle.tipc_types.specs.declared.identity.Addr.{Addr}
 use Rattle.tipc_types.specs.declared.identity.To.{To}
@@ -18,6 +18,7 @@ use Rattle.tipc_header.specs.declared.packet.DiscoveryType.{DiscoveryType}
 use Rattle.tipc_header.specs.Frames.{frame_of, is_of_link, kind_in}
 use Rattle.tipc_header.specs.Grammar.{Fits}
 use Rattle.tipc_header.specs.Spelling.{Fields, spelling}
+use Rattle.tipc_broadcast.specs.Deeds.{AreSmall, CastDeed, IsUncast, after_deeds, boot_with, is_contact_of, sends_nothing}
 use Rattle.tipc_journal.specs.declared.entries.Entry.{Entry}
 use Rattle.tipc_journal.specs.declared.entries.Entry.TheVariants as entry
 use Rattle.tipc_journal.specs.Steps.{IsInside, NodeStep, step_entries}
@@ -29,6 +30,7 @@ use Rattle.tipc_pair.specs.Facing.{PairEnds}
 use Rattle.tipc_pair.specs.Messages.{opened_in}
 use Rattle.tipc_pair.specs.PairTurns.{MakesNew, Opening, PairTurn, Reply, ShowsAtLast, ShowsIn, Suits, IsOnOne, IsTakenBy}
 use Rattle.tipc_pair.specs.PairTurns.Opening.{hears, makes}
+use Rattle.tipc_node.specs.Casting.{deeds_told, met_boot}
 use Rattle.tipc_node.specs.Discovery.{discovery_frame}
 use Rattle.tipc_node.specs.Messages.{IsSendable, bytes_of, message_in}
 use Rattle.tipc_node.specs.Nodes.{NodeState, accepted_entry, change_entries, is_other, neighbour_of, pair_with, shown_contact}
@@ -94,6 +96,16 @@ frames_to b frames = filter (is_out_to b) frames
 -- the pair to each node, a stranger's too, is for the peer under whose number it stands
 abbrev pub AreNamed : NodeState → Type 0
 AreNamed n = (b : ℕ) → Names (node_word b) (pair_with n b)
+
+-- a peer is in contact at the broadcast link exactly where there is contact with it, and in the boot that it has in the contact
+abbrev pub HaveJoined : NodeState → Type 0
+HaveJoined n = (b : ℕ) → boot_with (node_word b) n.casting ≡ met_boot (pair_with n b)
+
+-- the broadcast link of a node: who is in contact there, no more is held of a peer than the window has, and nothing was broadcast yet
+pub record AreCast (n : NodeState) : Type 0 where
+  pub joined : HaveJoined n
+  pub small : AreSmall n.casting
+  pub uncast : IsUncast n.casting
 
 -- ---- the turn at one peer
 
@@ -195,6 +207,12 @@ pub record NodeTurn (n n' : NodeState) (bytes : List ℕ) (s : NodeStep) (frames
   pub journal : n'.journal ≡ n.journal ++ step_entries s
   pub inside : IsInside s.inside
   pub turns : (b : ℕ) → PeerTurn n.own bytes s frames b (pair_with n b) (pair_with n' b)
+  -- what the node did at its broadcast link: each peer joins and leaves just as the step tells that the contact with it begins and ends; and
+  -- nothing is sent
+  pub deeds : List CastDeed
+  pub casting : n'.casting ≡ after_deeds deeds n.casting
+  pub contacts : (b : ℕ) → filter (is_contact_of (node_word b)) deeds ≡ deeds_told (filter (is_change_of b) s.inside)
+  pub silent : list_all sends_nothing deeds ≡ true
   -- a neighbour stays one, and a stranger does, unless an end to it is made; that is another one of the 32 nodes then
   pub lasts : (b : ℕ) → is_some (neighbour_of n b) ≡ true → is_some (neighbour_of n' b) ≡ true
   pub stays : (b : ℕ) → neighbour_of n b ≡ None

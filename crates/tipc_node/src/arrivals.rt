@@ -1,11 +1,15 @@
 //! What an arrival makes of a node.
 
-ghost use Rattle.std.specs.Prelude.{◌≡◌, ◌≢◌, ℕ, ◌≤◌, ◌-◌, List, [], true, false, Some, Err, length, IfErr, IfOk, OnErr, OnOk};
+ghost use Rattle.std.specs.Prelude.{◌≡◌, ◌≢◌, ℕ, ◌≤◌, ◌-◌, List, [], true, false, None, Some, Err, filter, length, unwrap_or, IfErr, IfNone, IfOk, IfSome, OnErr, OnOk};
 ghost use Rattle.tipc_outside.specs.declared.outgoing.Outgoing.{Outgoing};
 ghost use Rattle.tipc_outside.specs.Frames.{Adds};
 ghost use Rattle.tipc_header.specs.declared.frames.FrameKind.TheVariants.{Casts, Finds, Links};
 ghost use Rattle.tipc_header.specs.Frames.{kind_in};
 ghost use Rattle.tipc_header.specs.Spelling.{view};
+ghost use Rattle.tipc_types.specs.Address.{node_word};
+ghost use Rattle.tipc_broadcast.specs.Casting.{shown};
+ghost use Rattle.tipc_pair.specs.Contacts.{is_of_contact};
+ghost use Rattle.tipc_node.specs.Turns.{HaveJoined};
 ghost use Rattle.tipc_node.specs.Arrivals.{Arrives, BringsDiscovery, IsDue};
 ghost use Rattle.tipc_node.specs.Discovery.{AreFound};
 ghost use Rattle.tipc_node.specs.Hearings.{told_changes, HearsDue, IsDueAt, IsPrepared};
@@ -13,14 +17,26 @@ ghost use Rattle.tipc_journal.specs.Room.{free_entries, has_journal_room};
 ghost use Rattle.tipc_node.specs.Nodes.{message_count, neighbour_of, stop_of, stopped_node};
 ghost use Rattle.tipc_node.specs.Sure.{all_wait};
 
+use crate::casting::{changes_contact, take_state};
 use crate::cores::Core;
 use crate::frames::{Due, Hearing, fits, look, message_count, prepare};
 use crate::steps::{NodeFault, begin, has_journal_room, record};
 use crate::sure::{all_wait, conclude_waiting, prepare_waiting};
 use std::alloc::Global;
+use tipc_broadcast::Broadcast;
 use tipc_header::FrameKind;
 use tipc_outside::Outbox;
-use tipc_types::{Answer, Arrival, By, EventNote, NoMemory, Why};
+use tipc_types::{Addr, Answer, Arrival, By, EventNote, NoMemory, Why};
+
+/// Makes the broadcast link what it was, where it was copied.
+fn put_back(broadcast: &mut Broadcast, kept: Option<Broadcast>)
+    ensures { broadcast.new ≡ unwrap_or kept broadcast.old }
+{
+    let Some(kept) = kept else {
+        return;
+    };
+    *broadcast = kept;
+}
 
 impl Core {
     /// A frame arrives on a bearer; `number` is its number among all that arrived at this node. A packet that it
@@ -39,7 +55,8 @@ impl Core {
         frame: &[u8],
         out: &mut Outbox,
     ) -> Result<Arrival, NodeFault>
-        requires { AreFound self.old }
+        requires found { AreFound self.old }
+        requires joined { HaveJoined self.old }
         ensures ok { IfOk result (λ a. (frames : List Outgoing)
             × Arrives self.old self.new by bearer number frame.now frames a × Adds out.old out.new frames) }
         ensures room { OnOk result (has_journal_room self.old.journal ≡ true) }
@@ -121,6 +138,7 @@ impl Core {
         out: &mut Outbox,
     ) -> Result<Arrival, NodeFault>
         requires due { IsDueAt self.old due.now }
+        requires joined { HaveJoined self.old }
         ensures heard { IfOk result (λ a. HearsDue self.old self.new by number due.now out.old out.new a) }
         ensures room { OnOk result (has_journal_room self.old.journal ≡ true) }
         ensures full { has_journal_room self.old.journal ≡ false → result ≡ Err NodeFault.JournalFull }
@@ -158,6 +176,7 @@ impl Core {
         out: &mut Outbox,
     ) -> Result<Arrival, NoMemory>
         requires due { IsDueAt self.old due.now }
+        requires joined { HaveJoined self.old }
         requires room { has_journal_room self.old.journal ≡ true }
         ensures heard { IfOk result (λ a. HearsDue self.old self.new by number due.now out.old out.new a) }
         ensures err { OnErr result ((self.new ≡ self.old) × (out.new ≡ out.old)) }
@@ -165,7 +184,8 @@ impl Core {
         let Some(neighbour) = self.neighbour(due.peer) else {
             unreachable!()
         };
-        let heard = prepare(alloc, neighbour, number, due)?;
+        let shown = self.broadcast.shown(Addr::node(due.peer));
+        let heard = prepare(alloc, neighbour, number, due, shown)?;
         if self.is_sure(&heard) {
             self.take_all(alloc, by, due, heard, out)
         } else {
@@ -184,8 +204,10 @@ impl Core {
         out: &mut Outbox,
     ) -> Result<Arrival, NoMemory>
         requires due { IsDueAt self.old due.now }
+        requires joined { HaveJoined self.old }
         requires room { has_journal_room self.old.journal ≡ true }
         requires heard { IsPrepared (neighbour_of self.old due.now.peer) due.now heard }
+        requires shown { heard.shown ≡ shown self.old.casting (node_word due.now.peer) }
         requires still { told_changes heard ≡ [] }
         requires sure { all_wait self.old.sockets (message_count heard.deliveries.items)
             heard.deliveries.items ≡ true }
@@ -200,8 +222,10 @@ impl Core {
         let Some(neighbour) = &mut self.draft.neighbours[due.peer as usize] else {
             unreachable!()
         };
-        let _ = neighbour.take(alloc, heard.arriving, &due.packet, out);
-        neighbour.answer(alloc, due.bearer, out);
+        let _ = neighbour.take(alloc, heard.arriving, &due.packet, heard.shown, out);
+        let asks = take_state(&mut self.broadcast, alloc, due.peer, heard.stated, out);
+        let shown = self.broadcast.shown(Addr::node(due.peer));
+        neighbour.answer(alloc, due.bearer, asks, shown, out);
         let note = EventNote::Arrive {
             bearer: due.bearer,
             number: heard.number,
@@ -218,6 +242,23 @@ impl Core {
         Ok(heard.answer)
     }
 
+    /// A copy of the broadcast link, where an arrival that will make this changes it: the contact changes, or a STATE is
+    /// taken.
+    fn broadcast_before(
+        &self,
+        alloc: Global,
+        heard: &Hearing,
+    ) -> Result<Option<Broadcast>, NoMemory>
+        ensures some { IfOk result (λ kept. IfSome kept (λ copy. copy ≡ self.now.casting)) }
+        ensures none { IfOk result (λ kept. IfNone kept
+            ((filter is_of_contact (told_changes heard.now) ≡ []) × (heard.now.stated ≡ None))) }
+    {
+        if !changes_contact(heard.arriving.changes()) && heard.stated.is_none() {
+            return Ok(None);
+        }
+        Ok(Some(self.broadcast.copy(alloc)?))
+    }
+
     /// A packet arrives, and a peer may be greeted, or something may go back, or items are applied: as
     /// [`Core::hear`]. Where memory runs out, the node is made what it was.
     fn hear_each(
@@ -229,15 +270,22 @@ impl Core {
         out: &mut Outbox,
     ) -> Result<Arrival, NoMemory>
         requires due { IsDueAt self.old due.now }
+        requires joined { HaveJoined self.old }
         requires room { has_journal_room self.old.journal ≡ true }
         requires prepared { IsPrepared (neighbour_of self.old due.now.peer) due.now heard }
+        requires shown { heard.shown ≡ shown self.old.casting (node_word due.now.peer) }
         ensures heard { IfOk result (λ a. HearsDue self.old self.new by heard.number due.now out.old out.new a) }
         ensures err { OnErr result ((self.new ≡ self.old) × (out.new ≡ out.old)) }
     {
         let number = heard.number;
+        let kept = self.broadcast_before(alloc, &heard)?;
         let before = self.draft.sockets().copy()?;
-        let Ok(answer) = self.draft.hear_in(alloc, &mut self.journal, due, heard) else {
+        let Ok(answer) = self
+            .draft
+            .hear_in(alloc, &mut self.journal, &mut self.broadcast, due, heard)
+        else {
             self.draft.take_back(alloc, before);
+            put_back(&mut self.broadcast, kept);
             return Err(NoMemory);
         };
         let note = EventNote::Arrive {

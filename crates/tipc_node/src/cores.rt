@@ -7,12 +7,16 @@ ghost use Rattle.tipc_outside.specs.declared.outgoing.Outgoing.{Outgoing};
 ghost use Rattle.tipc_journal.specs.Counting.{is_sent_by_name};
 ghost use Rattle.tipc_sockets.specs.SocketTables.{AreSockets, no_sockets};
 ghost use Rattle.tipc_node.specs.Calls.{CanPerform, IsPickedFrom, Performs, tick_plan, upkeep_plan};
+ghost use Rattle.tipc_broadcast.specs.Casting.{booted};
+ghost use Rattle.tipc_node.specs.Casting.{casting_in};
 ghost use Rattle.tipc_node.specs.Discovery.{nobody_heard};
+ghost use Rattle.tipc_node.specs.Turns.{HaveJoined};
 ghost use Rattle.tipc_node.specs.Neighbours.{IsOnBearer};
 ghost use Rattle.tipc_node.specs.Nodes.{is_mended_on, node_load, neighbour_of, recorded, upkeep_note};
 ghost use Rattle.tipc_node.specs.Plans.{CarriesOut};
 ghost use Rattle.tipc_journal.specs.Room.{has_journal_room};
 
+use crate::casting::bear;
 use crate::discovery::next_tick;
 use crate::drafts::Draft;
 use crate::neighbours::{
@@ -22,6 +26,7 @@ use crate::neighbours::{
 use crate::steps::{NodeFault, has_journal_room, note_timeouts, record};
 use std::alloc::Global;
 use std::marker::Model;
+use tipc_broadcast::Broadcast;
 use tipc_discovery::Neighbours;
 use tipc_journal::Journal;
 use tipc_outside::Outbox;
@@ -41,10 +46,13 @@ pub struct Core {
     pub(crate) found: Neighbours,
     /// The ticks of this boot, counted up to the eighth and then again from the first.
     pub(crate) ticks: u8,
+    /// One stream of packets to all peers in contact, and what is taken of theirs.
+    pub(crate) broadcast: Broadcast,
 }
 
 impl Model for Core {
     ghost use Rattle.std.specs.Prelude.{◌≡◌, ◌≤◌, ◌<◌};
+    ghost use Rattle.tipc_node.specs.Casting.{IsOfNode};
     ghost use Rattle.tipc_node.specs.Drafts.{IsIdle};
     ghost use Rattle.tipc_node.specs.Nodes.{NodeState};
 
@@ -59,10 +67,24 @@ impl Model for Core {
       neighbours = n.draft.work.neighbours;
       sockets = n.draft.work.sockets;
       journal = n.journal.entries;
+      casting = n.broadcast;
     } };
 
     ghost invariant = { λ n. IsIdle n.draft × (1 ≤ n.boot) × (n.draft.work.sockets.own ≡ n.own.word) ×
-        (n.draft.work.sockets.ports.boot ≡ n.boot) × (n.found.own ≡ n.own.word) × (n.ticks < 8) };
+        (n.draft.work.sockets.ports.boot ≡ n.boot) × (n.found.own ≡ n.own.word) × (n.ticks < 8) ×
+        IsOfNode n.own.word n.boot n.mended n.broadcast };
+}
+
+/// Makes the broadcast link what it is after something happened to all neighbours: a copy, where a contact ended; else a
+/// bearer may have been mended or cut.
+fn take_broadcast(broadcast: &mut Broadcast, upkeep: Upkeep, after: Option<Broadcast>)
+    requires { IsOnBearer upkeep }
+    ensures { broadcast.new ≡ casting_in upkeep broadcast.old after }
+{
+    match after {
+        Some(after) => *broadcast = after,
+        None => bear(broadcast, upkeep),
+    }
 }
 
 impl Core {
@@ -75,6 +97,7 @@ impl Core {
         ensures empty { IfOk result (λ n. (n.sockets ≡ no_sockets own.word boot) × (n.journal ≡ [])) }
         ensures unheard { IfOk result (λ n. n.found ≡ nobody_heard own.word) }
         ensures ticks { IfOk result (λ n. n.ticks ≡ 0) }
+        ensures casting { IfOk result (λ n. n.casting ≡ booted own.word boot) }
     {
         Ok(Core {
             own,
@@ -82,6 +105,7 @@ impl Core {
             mended: (false, false),
             found: Neighbours::new(alloc, own),
             ticks: 0,
+            broadcast: Broadcast::new(alloc, own, boot),
             draft: Draft::new(alloc, own, boot)?,
             journal: Journal::new(alloc),
         })
@@ -119,11 +143,21 @@ impl Core {
         self.boot
     }
 
-    /// The numbers of packets unacknowledged and waiting, each on all its links together that are up.
+    /// The numbers of packets unacknowledged and waiting, each on all its links together that are up, and on its broadcast
+    /// link.
     pub fn load(&self) -> (u64, u64)
         ensures { result ≡ node_load self.now }
     {
-        load_all(self.draft.neighbours())
+        let links = load_all(self.draft.neighbours());
+        let cast = self.broadcast.load();
+        (links.0 + cast.0 as u64, links.1 + cast.1 as u64)
+    }
+
+    /// How many broadcast packets it numbered in this boot, and passed over.
+    pub fn broadcast_numbered(&self) -> u64
+        ensures { result ≡ self.now.casting.sending.numbered }
+    {
+        self.broadcast.numbered()
     }
 
     /// Its journal.
@@ -168,6 +202,7 @@ impl Core {
         out: &mut Outbox,
     ) -> Result<Answer, NodeFault>
         requires can { CanPerform call }
+        requires joined { HaveJoined self.old }
         ensures ok { IfOk result (λ a. (frames : List Outgoing) × Performs self.old by call self.new frames a ×
             Adds out.old out.new frames) }
         ensures picked { IfOk result (λ a. (turn : ℕ) → turn % 2 ^ 64 ≡ chooser.old.turn →
@@ -198,6 +233,7 @@ impl Core {
         out: &mut Outbox,
     ) -> Result<Answer, NoMemory>
         requires can { CanPerform call }
+        requires joined { HaveJoined self.old }
         requires room { has_journal_room self.old.journal ≡ true }
         ensures ok { IfOk result (λ a. (frames : List Outgoing) × Performs self.old by call self.new frames a ×
             Adds out.old out.new frames) }
@@ -273,19 +309,28 @@ impl Core {
         out: &mut Outbox,
     ) -> Result<Answer, NoMemory>
         requires upkeep { IsOnBearer upkeep }
+        requires joined { HaveJoined self.old }
         requires room { has_journal_room self.old.journal ≡ true }
         ensures ok { IfOk result (λ a. (frames : List Outgoing) × CarriesOut self.old by (upkeep_note upkeep)
             (upkeep_plan self.old upkeep) self.new frames a × Adds out.old out.new frames) }
         ensures err { OnErr result ((self.new ≡ self.old) × (out.new ≡ out.old)) }
     {
         let mut event = Parting::new(alloc);
-        let after = part_of_all(self.draft.neighbours(), alloc, upkeep, &mut event)?;
+        let after = part_of_all(
+            self.draft.neighbours(),
+            alloc,
+            upkeep,
+            &self.broadcast,
+            &mut event,
+        )?;
         self.ask(alloc, upkeep, after.as_slice(), &mut event.out);
         let changed = event.inside.len();
         self.draft
             .take_over(&mut self.journal, after, event.inside.as_slice(), changed)?;
         self.mended = mended_by(upkeep, self.mended);
+        take_broadcast(&mut self.broadcast, upkeep, event.broadcast);
         out.append(event.out);
+        out.append(event.casts);
         record(
             &mut self.journal,
             by,
@@ -300,6 +345,7 @@ impl Core {
     /// forgotten, and then it asks who is there where it is time for that; then subscriptions time out, rising, and it
     /// passes for the others.
     fn tick(&mut self, alloc: Global, by: By, out: &mut Outbox) -> Result<Answer, NoMemory>
+        requires joined { HaveJoined self.old }
         requires room { has_journal_room self.old.journal ≡ true }
         ensures ok { IfOk result (λ a. (frames : List Outgoing) × CarriesOut self.old by EventNote.Tick
             (tick_plan self.old) self.new frames a × Adds out.old out.new frames) }
@@ -307,7 +353,13 @@ impl Core {
     {
         let due = self.draft.sockets().due(alloc)?;
         let mut event = Parting::new(alloc);
-        let after = part_of_all(self.draft.neighbours(), alloc, Upkeep::Tick, &mut event)?;
+        let after = part_of_all(
+            self.draft.neighbours(),
+            alloc,
+            Upkeep::Tick,
+            &self.broadcast,
+            &mut event,
+        )?;
         self.ask(alloc, Upkeep::Tick, after.as_slice(), &mut event.out);
         let changed = event.inside.len();
         event.inside.reserve(due.as_slice().len())?;
@@ -316,7 +368,9 @@ impl Core {
             .take_over(&mut self.journal, after, event.inside.as_slice(), changed)?;
         self.draft.pass();
         self.ticks = next_tick(self.ticks);
+        take_broadcast(&mut self.broadcast, Upkeep::Tick, event.broadcast);
         out.append(event.out);
+        out.append(event.casts);
         record(
             &mut self.journal,
             by,

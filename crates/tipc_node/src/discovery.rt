@@ -14,7 +14,7 @@ ghost use Rattle.tipc_node.specs.declared.neighbours.Upkeep.TheVariants as upkee
 ghost use Rattle.tipc_node.specs.Drafts.{with_neighbours_in};
 ghost use Rattle.tipc_node.specs.Discovery.{AreFound, asks_on, discovered_frames, discovered_node, discovery_frame, has_link_up, is_request, next_tick, request_on, requests_by, responses, tick_requests, welcomed, welcome_frames};
 ghost use Rattle.tipc_node.specs.Hearings.{FindsAt, FindsDue};
-ghost use Rattle.tipc_node.specs.Nodes.{after_all, end_with, recorded};
+ghost use Rattle.tipc_node.specs.Nodes.{after_all, end_with, parts_of, recorded};
 ghost use Rattle.tipc_pair.specs.Facing.{is_up_at};
 
 use crate::cores::Core;
@@ -231,7 +231,7 @@ impl Core {
     /// Whether it asks on a bearer, 0 or 1, at a tick, after which the neighbours are these.
     fn asks_on(&self, bearer: u8, after: &[Option<Neighbour>]) -> bool
         requires bearer { bearer ≤ 1 }
-        requires after { after.now ≡ after_all upkeep.Tick self.now.neighbours }
+        requires after { after.now ≡ after_all (parts_of upkeep.Tick self.now) }
         ensures { result ≡ asks_on self.now bearer }
     {
         is_mended_on(self.mended, bearer)
@@ -248,7 +248,7 @@ impl Core {
         event: &mut Outbox,
     )
         requires bearer { bearer ≤ 1 }
-        requires after { after.now ≡ after_all upkeep.Tick self.now.neighbours }
+        requires after { after.now ≡ after_all (parts_of upkeep.Tick self.now) }
         ensures { AddsFirst event.old event.new (tick_requests self.now bearer) }
     {
         if !self.asks_on(bearer, after) {
@@ -267,7 +267,7 @@ impl Core {
         after: &[Option<Neighbour>],
         event: &mut Outbox,
     )
-        requires { after.now ≡ after_all upkeep self.now.neighbours }
+        requires { after.now ≡ after_all (parts_of upkeep self.now) }
         ensures { AddsFirst event.old event.new (requests_by upkeep self.now) }
     {
         match upkeep {

@@ -13,7 +13,8 @@ ghost use Rattle.tipc_pair.specs.Messages.{opened_in, HasNoFault};
 ghost use Rattle.tipc_node.specs.Hearings.{IsLooked, IsPrepared};
 ghost use Rattle.tipc_node.specs.Nodes.{arrival_answer, deliveries_of, delivered_by, delivery_of, end_with, is_other, message_count, stop_among, stop_by_kind, taken_count};
 
-use crate::neighbours::{Bearers, Neighbour, is_mended_on, no_broadcast};
+use crate::casting::stated_in;
+use crate::neighbours::{Bearers, Neighbour, is_mended_on};
 use crate::steps::{FREE_ENTRIES, FREE_MESSAGE_BYTES};
 use std::alloc::Global;
 use tipc_discovery::is_of_network;
@@ -22,7 +23,7 @@ use tipc_journal::{Arrivals, Entry, entry_bytes};
 use tipc_message::message_from;
 use tipc_pair::{Incoming, PairArriving, PairOutcome};
 use tipc_reassembly::Opened;
-use tipc_types::{Addr, Arrival, Flow, Message, NoMemory, Why};
+use tipc_types::{Addr, Arrival, BroadcastState, Flow, Message, NoMemory, Why};
 
 /// The most entries of what an arrival delivers, of the free entries that a call needs.
 const MOST_TOLD: usize = FREE_ENTRIES as usize - 4;
@@ -325,28 +326,34 @@ fn are_few(deliveries: &[Delivery]) -> bool
 pub struct Hearing {
     /// The number of the arrival at this node.
     pub number: u64,
+    /// What a STATE to the neighbour shows of the broadcast link before the arrival.
+    pub shown: BroadcastState,
     /// What it will make of the pair.
     pub arriving: PairArriving,
+    /// What it tells of broadcast, where it is a STATE that will be taken.
+    pub stated: Option<BroadcastState>,
     /// What it delivers.
     pub deliveries: Vec<Delivery>,
     /// What will have become of it.
     pub answer: Arrival,
 }
 
-/// What a packet will make of a neighbour; `number` is the arrival's number at this node. Nothing is changed yet.
+/// What a packet will make of a neighbour; `number` is the arrival's number at this node, and `shown` is what a STATE to the
+/// neighbour shows of the broadcast link. Nothing is changed yet.
 pub fn prepare(
     alloc: Global,
     neighbour: &Neighbour,
     number: u64,
     due: &Due<'_>,
+    shown: BroadcastState,
 ) -> Result<Hearing, NoMemory>
     requires peer { (1 ≤ due.now.peer) × (due.now.peer ≤ 32) }
     requires bearer { due.now.bearer ≤ 1 }
     requires fits { Fits (view due.now.packet) }
     ensures number { IfOk result (λ h. h.number ≡ number) }
+    ensures shown { IfOk result (λ h. h.shown ≡ shown) }
     ensures prepared { IfOk result (λ h. IsPrepared (Some neighbour.now) due.now h) }
 {
-    let shown = no_broadcast(neighbour.in_step);
     let incoming = Incoming {
         sender_epoch: due.first,
         receiver_epoch: due.second,
@@ -361,9 +368,12 @@ pub fn prepare(
         return Err(NoMemory);
     }
     let answer = arrival_answer(arriving.outcome(), deliveries.as_slice());
+    let stated = stated_in(&due.packet.header, arriving.outcome());
     Ok(Hearing {
         number,
+        shown,
         arriving,
+        stated,
         deliveries,
         answer,
     })

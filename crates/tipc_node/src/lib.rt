@@ -8,6 +8,7 @@
 //! - Arrivals: `frames` (what a frame is, and what it delivers), `arrivals` (what an arrival makes of a node), `packets`
 //!   (what a peer's packet makes of what is kept of the peer), `consequences` (what follows from it), `deliveries` (what
 //!   was delivered, one after the other), `sure` (the same where each message surely waits).
+//! - Broadcast: `casting` (what contacts and STATEs make of the broadcast link).
 //! - Fates: `fates` (a message's fate, or its way on a link).
 //! - The step: `drafts` (what a node works on), `steps` (how it is recorded), `neighbours` (the peers, and what a call
 //!   does at each).
@@ -15,6 +16,7 @@
 
 mod arrivals;
 mod calls;
+mod casting;
 mod consequences;
 mod cores;
 mod deliveries;

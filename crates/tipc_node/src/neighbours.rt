@@ -1,7 +1,7 @@
 //! The peers of a node, and what a call does at each.
 
-ghost use Rattle.std.specs.Prelude.{◌≡◌, ◌+◌, ◌-◌, ◌^◌, ◌++◌, ◌≤◌, ◌&&◌, not, ℕ, List, [], true, false, All, Some, None, is_some, length, slice_index_or, unwrap_or, IfOk, IfSome, IfNone, IsErr, OnErr, OnOk};
-ghost use Rattle.std.specs.List.{list_any};
+ghost use Rattle.std.specs.Prelude.{◌≡◌, ◌+◌, ◌-◌, ◌^◌, ◌≤◌, ℕ, List, [], true, All, Some, None, filter, length, slice_index_or, unwrap_or, IfOk, IsErr, OnErr, OnOk};
+ghost use Rattle.tipc_types.specs.Address.{node_word};
 ghost use Rattle.tipc_types.specs.declared.message_forms.Flow.TheVariants.{Zero};
 ghost use Rattle.tipc_outside.specs.Frames.{no_frames, Adds, AddsFirst, Gains};
 ghost use Rattle.tipc_outside.specs.declared.outgoing.Outgoing.{Outgoing};
@@ -10,12 +10,19 @@ ghost use Rattle.tipc_pair.specs.Courses.{made_in};
 ghost use Rattle.tipc_pair.specs.Facing.{facing, in_contact};
 ghost use Rattle.tipc_pair.specs.PairCalls.{active_session};
 ghost use Rattle.tipc_pair.specs.Runs.{IsListed};
-ghost use Rattle.tipc_node.specs.Nodes.{accepted_entry, after_all, after_one, upkeep_note, entries_all, entries_one, load_all, load_on, load_with, made_all, made_one, mended_by, shown_contact, unacked_in, waiting_in, with_mended_on, is_mended_on};
-ghost use Rattle.tipc_node.specs.Neighbours.{course_of, done, making, neighbour, no_broadcast, stays_in_step, stranger, IsOnBearer, PutsThere};
+ghost use Rattle.tipc_broadcast.specs.Casting.{shown};
+ghost use Rattle.tipc_broadcast.specs.Contacts.{has_joined};
+ghost use Rattle.tipc_broadcast.specs.Deeds.{after_deeds, deeds_frames};
 ghost use Rattle.tipc_pair.specs.Contacts.{is_of_contact};
+ghost use Rattle.tipc_node.specs.Casting.{bearer_deeds, casting_in, contact_deeds, IsContactChange};
+ghost use Rattle.tipc_node.specs.Neighbours.{course_of, done, making, stranger, with_pair, IsOnBearer, PutsThere};
+ghost use Rattle.tipc_node.specs.Nodes.{accepted_entry, is_met, load_all, load_on, load_with, mended_by, shown_contact, unacked_in, upkeep_note, waiting_in, with_mended_on, is_mended_on};
+ghost use Rattle.tipc_node.specs.Partings.{AreAllJoined, TookPart, TookParts};
 
+use crate::casting::{bear, changes_contact, follow_contact};
 use crate::steps::note_changes;
 use std::alloc::Global;
+use tipc_broadcast::Broadcast;
 use tipc_journal::Entry;
 use tipc_outside::Outbox;
 use tipc_pair::{Pair, Transition, TransitionList};
@@ -30,8 +37,6 @@ pub const NUMBERS: usize = 33;
 pub struct Neighbour {
     /// The link ends to it, and the contact.
     pub pair: Pair,
-    /// Whether this node took a STATE of it in this contact, and so is in step with its broadcast.
-    pub in_step: bool,
 }
 
 /// What happens to all neighbours of a node alike.
@@ -43,45 +48,6 @@ pub enum Upkeep {
     Cut(u8),
     /// A tick.
     Tick,
-}
-
-/// Whether a contact began or ended.
-fn is_of_contact(change: &Transition) -> bool
-    ensures { result ≡ is_of_contact change.now }
-{
-    match change {
-        Transition::ContactUp { .. } => true,
-        Transition::ContactDown { .. } => true,
-        Transition::LinkUp { .. } => false,
-        Transition::LinkDown { .. } => false,
-    }
-}
-
-/// Whether a contact began or ended by one of these changes.
-fn has_one_of_contact(changes: &[Transition]) -> bool
-    ensures { result ≡ list_any is_of_contact changes.now }
-{
-    changes.iter().any(|change| is_of_contact(change))
-}
-
-/// Whether a node is still in step with the broadcast of a peer after these changes.
-pub fn stays_in_step(in_step: bool, changes: &[Transition]) -> bool
-    ensures { result ≡ stays_in_step in_step changes.now }
-{
-    in_step && !has_one_of_contact(changes)
-}
-
-/// What a STATE of a node that has broadcast nothing says of the broadcast.
-pub fn no_broadcast(in_step: bool) -> BroadcastState
-    ensures { result ≡ no_broadcast in_step }
-{
-    BroadcastState {
-        acknowledged: 0,
-        next: 1,
-        start: 1,
-        gap: 0,
-        in_step,
-    }
 }
 
 /// The bearers of a node: whether 0 is mended, and whether 1 is.
@@ -134,7 +100,6 @@ impl Neighbour {
     {
         Neighbour {
             pair: Pair::new(alloc, own, Addr::node(peer), boot),
-            in_step: false,
         }
     }
 
@@ -142,7 +107,7 @@ impl Neighbour {
     pub fn make(&mut self, alloc: Global, bearer: u8, out: &mut Outbox)
         requires bearer { bearer ≤ 1 }
         requires none { (facing bearer self.old.pair).near ≡ None }
-        ensures after { self.new ≡ neighbour (making bearer self.old).pair self.old.in_step }
+        ensures after { self.new ≡ with_pair self.old (making bearer self.old).pair }
         ensures frames { AddsFirst out.old out.new (making bearer self.old).states }
     {
         self.pair.sound();
@@ -150,47 +115,31 @@ impl Neighbour {
         self.pair.mend(alloc, bearer, out);
     }
 
-    /// Lets something happen at its pair.
-    fn undergo(
+    /// Takes part in what happens to all neighbours alike; a STATE shows this of the broadcast link.
+    pub fn take_part(
         &mut self,
         alloc: Global,
         upkeep: Upkeep,
+        shown: BroadcastState,
         out: &mut Outbox,
     ) -> Result<TransitionList, NoMemory>
         requires { IsOnBearer upkeep }
-        ensures after { OnOk result (self.new ≡ neighbour (course_of upkeep self.old).pair self.old.in_step) }
-        ensures changes { IfOk result (λ changes. changes ≡ (course_of upkeep self.old).changes) }
-        ensures frames { OnOk result (Gains out.old out.new (made_in (course_of upkeep self.old))) }
+        ensures after { OnOk result (self.new ≡ (done upkeep shown self.old).after) }
+        ensures changes { IfOk result (λ changes. changes ≡ (done upkeep shown self.old).changes) }
+        ensures frames { OnOk result (Gains out.old out.new (made_in (course_of upkeep shown self.old))) }
+        // The contact begins or ends once at most.
+        ensures contact { IfOk result (λ changes.
+            IsContactChange (in_contact self.old.pair) (filter is_of_contact changes)) }
     {
+        self.pair.sound();
         match upkeep {
             Upkeep::Mend(bearer) => {
                 self.pair.mend(alloc, bearer, out);
                 Ok(TransitionList::new(alloc))
             }
             Upkeep::Cut(bearer) => self.pair.cut(alloc, bearer, out),
-            Upkeep::Tick => {
-                let shown = no_broadcast(self.in_step);
-                self.pair.tick(alloc, shown, out)
-            }
+            Upkeep::Tick => self.pair.tick(alloc, shown, out),
         }
-    }
-
-    /// Takes part in what happens to all neighbours alike: as [`Neighbour::undergo`], and it may be that the node isn't in
-    /// step with its broadcast any more.
-    pub fn take_part(
-        &mut self,
-        alloc: Global,
-        upkeep: Upkeep,
-        out: &mut Outbox,
-    ) -> Result<TransitionList, NoMemory>
-        requires { IsOnBearer upkeep }
-        ensures after { OnOk result (self.new ≡ (done upkeep self.old).after) }
-        ensures changes { IfOk result (λ changes. changes ≡ (done upkeep self.old).changes) }
-        ensures frames { OnOk result (Gains out.old out.new (made_in (course_of upkeep self.old))) }
-    {
-        let changes = self.undergo(alloc, upkeep, out)?;
-        self.in_step = stays_in_step(self.in_step, changes.as_slice());
-        Ok(changes)
     }
 
     /// Whether there is contact with it.
@@ -286,6 +235,10 @@ pub struct Parting {
     pub inside: Vec<Entry>,
     /// The frames that leave.
     pub out: Outbox,
+    /// The broadcast link, a copy, where a contact ended.
+    pub broadcast: Option<Broadcast>,
+    /// The frames of broadcast packets, which leave behind all others.
+    pub casts: Outbox,
 }
 
 impl Parting {
@@ -293,62 +246,185 @@ impl Parting {
     pub fn new(alloc: Global) -> Parting
         ensures inside { result.inside.items ≡ [] }
         ensures out { result.out ≡ no_frames }
+        ensures broadcast { result.broadcast ≡ None }
+        ensures casts { result.casts ≡ no_frames }
     {
         Parting {
             inside: Vec::new(alloc),
             out: Outbox::new(alloc),
+            broadcast: None,
+            casts: Outbox::new(alloc),
+        }
+    }
+
+    /// What a STATE to a peer shows of the broadcast link, which was as it is before anything happened.
+    fn shown(&self, broadcast: &Broadcast, number: u8) -> BroadcastState
+        requires { (1 ≤ number) × (number ≤ 32) }
+        ensures { result ≡ shown (unwrap_or self.now.broadcast broadcast.now) (node_word number) }
+    {
+        match &self.broadcast {
+            Some(broadcast) => broadcast.shown(Addr::node(number)),
+            None => broadcast.shown(Addr::node(number)),
         }
     }
 }
 
-/// The neighbour of that number, where there is one, as it is when this happened to it; and what became of the links to
-/// it is told.
-#[tactic(auto, using(tipc_outside::proofs::Adding::gains_none))]
+/// A copy of the broadcast link, which was as it is before a bearer was mended or cut.
+fn copy_for(broadcast: &Broadcast, alloc: Global, upkeep: Upkeep) -> Result<Broadcast, NoMemory>
+    requires { IsOnBearer upkeep }
+    ensures { IfOk result (λ copy. copy ≡ after_deeds (bearer_deeds upkeep) broadcast.now) }
+{
+    let mut copy = broadcast.copy(alloc)?;
+    bear(&mut copy, upkeep);
+    Ok(copy)
+}
+
+/// The broadcast link within an event: the copy, where there is one; else one of it as it was before a bearer was mended
+/// or cut.
+fn link_in(
+    taken: Option<Broadcast>,
+    broadcast: &Broadcast,
+    alloc: Global,
+    upkeep: Upkeep,
+) -> Result<Broadcast, NoMemory>
+    requires { IsOnBearer upkeep }
+    ensures { IfOk result (λ link. link ≡ casting_in upkeep broadcast.now taken) }
+{
+    match taken {
+        Some(taken) => Ok(taken),
+        None => copy_for(broadcast, alloc, upkeep),
+    }
+}
+
+/// The contact with the neighbour of that number began or ended, which is told of it by these changes: it joins the
+/// broadcast link, or leaves it. That is copied before it is changed for the first time.
+fn change_link(
+    event: &mut Parting,
+    alloc: Global,
+    upkeep: Upkeep,
+    broadcast: &Broadcast,
+    number: u8,
+    changes: &[Transition],
+) -> Result<(), NoMemory>
+    requires upkeep { IsOnBearer upkeep }
+    requires number { (1 ≤ number) × (number ≤ 32) }
+    requires changes { IsContactChange (has_joined (node_word number) (casting_in upkeep broadcast.now
+        event.old.broadcast).contacts) (filter is_of_contact changes.now) }
+    ensures casting { OnOk result (casting_in upkeep broadcast.now event.new.broadcast ≡
+        after_deeds (contact_deeds number changes.now) (casting_in upkeep broadcast.now event.old.broadcast)) }
+    ensures casts { OnOk result (Adds event.old.casts event.new.casts (deeds_frames (contact_deeds number changes.now)
+        (casting_in upkeep broadcast.now event.old.broadcast))) }
+    ensures inside { event.new.inside ≡ event.old.inside }
+    ensures out { event.new.out ≡ event.old.out }
+{
+    let taken = event.broadcast.take();
+    let mut after = link_in(taken, broadcast, alloc, upkeep)?;
+    follow_contact(&mut after, alloc, number, changes, &mut event.casts)?;
+    event.broadcast = Some(after);
+    Ok(())
+}
+
+/// These changes are told of the neighbour of that number: where the contact with it ended it leaves the broadcast link.
+fn follow(
+    event: &mut Parting,
+    alloc: Global,
+    upkeep: Upkeep,
+    broadcast: &Broadcast,
+    number: u8,
+    changes: &[Transition],
+) -> Result<(), NoMemory>
+    requires upkeep { IsOnBearer upkeep }
+    requires number { (1 ≤ number) × (number ≤ 32) }
+    requires changes { IsContactChange (has_joined (node_word number) (casting_in upkeep broadcast.now
+        event.old.broadcast).contacts) (filter is_of_contact changes.now) }
+    ensures casting { OnOk result (casting_in upkeep broadcast.now event.new.broadcast ≡
+        after_deeds (contact_deeds number changes.now) (casting_in upkeep broadcast.now event.old.broadcast)) }
+    ensures casts { OnOk result (Adds event.old.casts event.new.casts (deeds_frames (contact_deeds number changes.now)
+        (casting_in upkeep broadcast.now event.old.broadcast))) }
+    ensures inside { event.new.inside ≡ event.old.inside }
+    ensures out { event.new.out ≡ event.old.out }
+{
+    if changes_contact(changes) {
+        change_link(event, alloc, upkeep, broadcast, number, changes)
+    } else {
+        Ok(())
+    }
+}
+
+/// The neighbour of that number as it is when this happened to it; what became of the links to it is told, and of the
+/// contact to the broadcast link too.
+fn part_of_one(
+    neighbour: &Neighbour,
+    alloc: Global,
+    upkeep: Upkeep,
+    broadcast: &Broadcast,
+    number: u8,
+    event: &mut Parting,
+) -> Result<Neighbour, NoMemory>
+    requires upkeep { IsOnBearer upkeep }
+    requires number { (1 ≤ number) × (number ≤ 32) }
+    requires joined { has_joined (node_word number) (casting_in upkeep broadcast.now event.old.broadcast).contacts ≡
+        in_contact neighbour.now.pair }
+    ensures part { IfOk result (λ after. TookPart upkeep number broadcast.now (Some neighbour.now) (Some after)
+        event.old event.new) }
+{
+    let mut after = neighbour.copy()?;
+    let shown = event.shown(broadcast, number);
+    let changes = after.take_part(alloc, upkeep, shown, &mut event.out)?;
+    follow(event, alloc, upkeep, broadcast, number, changes.as_slice())?;
+    event.inside.reserve(changes.len())?;
+    note_changes(&mut event.inside, number, changes.as_slice());
+    Ok(after)
+}
+
+/// The same of the neighbour of that number, where there is one.
+#[tactic(auto, using(crate::proofs::turns::Parts::none_took, crate::proofs::turns::Parts::some_took))]
 fn part_of(
     place: &Option<Neighbour>,
     alloc: Global,
     upkeep: Upkeep,
+    broadcast: &Broadcast,
     number: u8,
     event: &mut Parting,
 ) -> Result<Option<Neighbour>, NoMemory>
     requires upkeep { IsOnBearer upkeep }
     requires number { (1 ≤ number) × (number ≤ 32) }
-    ensures after { IfOk result (λ after. after ≡ after_one upkeep place.now) }
-    ensures entries { OnOk result (event.new.inside.items ≡ event.old.inside.items ++
-        entries_one upkeep number place.now) }
-    ensures frames { OnOk result (Gains event.old.out event.new.out (made_one upkeep place.now)) }
+    requires joined { has_joined (node_word number) (casting_in upkeep broadcast.now event.old.broadcast).contacts ≡
+        is_met place.now }
+    ensures part { IfOk result (λ after. TookPart upkeep number broadcast.now place.now after event.old event.new) }
 {
-    let Some(neighbour) = place else {
-        return Ok(None);
-    };
-    let mut after = neighbour.copy()?;
-    let changes = after.take_part(alloc, upkeep, &mut event.out)?;
-    event.inside.reserve(changes.len())?;
-    note_changes(&mut event.inside, number, changes.as_slice());
-    Ok(Some(after))
+    match place {
+        Some(neighbour) => {
+            let after = part_of_one(neighbour, alloc, upkeep, broadcast, number, event)?;
+            Ok(Some(after))
+        }
+        None => Ok(None),
+    }
 }
 
-/// The neighbours as they are when something happened to each, in order of their numbers; and what became of the links
-/// is told. Those that were aren't changed.
+/// The neighbours as they are when something happened to each, in order of their numbers: to each with all its
+/// consequences before the next one. What became of the links is told, and of the contacts to the broadcast link too.
+/// Those that were aren't changed.
 pub fn part_of_all(
     neighbours: &[Option<Neighbour>],
     alloc: Global,
     upkeep: Upkeep,
+    broadcast: &Broadcast,
     event: &mut Parting,
 ) -> Result<Vec<Option<Neighbour>>, NoMemory>
     requires upkeep { IsOnBearer upkeep }
     requires wide { length neighbours.now ≡ 33 }
     requires nobody { slice_index_or neighbours.now 0 None ≡ None }
+    requires joined { AreAllJoined neighbours.now broadcast.now }
     requires empty { event.old.inside.items ≡ [] }
-    ensures after { IfOk result (λ after. after.items ≡ after_all upkeep neighbours.now) }
-    ensures entries { OnOk result (event.new.inside.items ≡ entries_all upkeep 0 neighbours.now) }
-    ensures frames { OnOk result (Gains event.old.out event.new.out (made_all upkeep neighbours.now)) }
+    requires same { event.old.broadcast ≡ None }
+    ensures parts { IfOk result (λ after. TookParts upkeep broadcast.now neighbours.now after.items event.old event.new) }
 {
     let mut after = Vec::new(alloc);
     after.push(None)?;
     for number in 1..NUMBERS {
         let place = &neighbours[number];
-        after.push(part_of(place, alloc, upkeep, number as u8, event)?)?;
+        after.push(part_of(place, alloc, upkeep, broadcast, number as u8, event)?)?;
     }
     Ok(after)
 }
@@ -380,7 +456,8 @@ fn load_there(place: &Option<Neighbour>, bearer: u8) -> (u32, u32)
 #[tactic(auto, unfolding(crate::specs::Nodes::load_all))]
 pub fn load_all(neighbours: &[Option<Neighbour>]) -> (u64, u64)
     requires { length neighbours.now ≤ 33 }
-    ensures { result ≡ load_all neighbours.now }
+    ensures value { result ≡ load_all neighbours.now }
+    ensures fits { (result.0 ≤ 2 ^ 39) × (result.1 ≤ 2 ^ 39) }
 {
     let mut unacked = 0;
     let mut waiting = 0;

@@ -11,6 +11,7 @@ ghost use Rattle.tipc_pair.specs.PairCalls.{numbered_of};
 ghost use Rattle.tipc_sockets.specs.SocketTables.{no_sockets, queue_at};
 ghost use Rattle.tipc_node.specs.Arrivals.{Arrived};
 ghost use Rattle.tipc_node.specs.Calls.{CanPerform, HasInstances, Performed};
+ghost use Rattle.tipc_broadcast.specs.Casting.{booted};
 ghost use Rattle.tipc_node.specs.Discovery.{nobody_heard};
 ghost use Rattle.tipc_node.specs.Nodes.{contact_with, end_with, is_mended_on, node_load, neighbour_of};
 ghost use Rattle.tipc_journal.specs.Room.{has_journal_room};
@@ -29,7 +30,7 @@ use tipc_types::{Addr, Answer, Arrival, By, EventNote, Flow, LinkState, NoMemory
 
 /// A node in one boot. Its journal tells of its contacts and its links, its frames are for the peers whose numbers they
 /// name, and what it told a peer, and heard from it, makes the two agree on their names. It has a link end to each peer
-/// that it found, on the bearer on which it heard it.
+/// that it found, on the bearer on which it heard it. Its broadcast link has just the peers in contact.
 #[derive(Drop)]
 pub struct Node {
     core: Core,
@@ -40,14 +41,14 @@ impl Model for Node {
     ghost use Rattle.tipc_node.specs.Nodes.{NodeState};
     ghost use Rattle.tipc_node.specs.Sharing.{SharesNames};
     ghost use Rattle.tipc_node.specs.Telling.{ArePacked, IsTold};
-    ghost use Rattle.tipc_node.specs.Turns.{AreNamed};
+    ghost use Rattle.tipc_node.specs.Turns.{AreCast, AreNamed};
 
     ghost Value = { NodeState };
 
     ghost view = { λ n. n.core };
 
     ghost invariant = { λ n. IsTold n.core × AreNamed n.core × ArePacked n.core × SharesNames n.core ×
-        AreFound n.core };
+        AreFound n.core × AreCast n.core };
 }
 
 /// A publication of it has a range with instances. It does nothing.
@@ -69,6 +70,7 @@ impl Node {
         ensures empty { IfOk result (λ n. (n.sockets ≡ no_sockets own.word boot) × (n.journal ≡ [])) }
         ensures unheard { IfOk result (λ n. n.found ≡ nobody_heard own.word) }
         ensures ticks { IfOk result (λ n. n.ticks ≡ 0) }
+        ensures casting { IfOk result (λ n. n.casting ≡ booted own.word boot) }
         ensures told { IfOk result (λ n. IsTold n) }
         ensures shares { IfOk result (λ n. SharesNames n) }
     {
@@ -150,11 +152,19 @@ impl Node {
         self.neighbour(peer)?.pair.contact()
     }
 
-    /// The numbers of packets unacknowledged and waiting, each on all its links together that are up.
+    /// The numbers of packets unacknowledged and waiting, each on all its links together that are up, and on its broadcast
+    /// link.
     pub fn load(&self) -> (u64, u64)
         ensures { result ≡ node_load self.now }
     {
         self.core.load()
+    }
+
+    /// How many broadcast packets it numbered in this boot, and passed over.
+    pub fn broadcast_numbered(&self) -> u64
+        ensures { result ≡ self.now.casting.sending.numbered }
+    {
+        self.core.broadcast_numbered()
     }
 
     /// The state of the link end to the peer on a bearer, 0 or 1: None exactly where there is none.

@@ -7,7 +7,9 @@ use Rattle.std.proofs.lemmas.List.{get_or-set_other}
 use Rattle.tipc_types.specs.declared.message_forms.Flow.TheVariants.{Zero}
 use Rattle.tipc_types.specs.Address.{node_word}
 use Rattle.tipc_types.specs.declared.identity.Addr.{Addr}
+use Rattle.tipc_types.specs.declared.link_words.BroadcastState.{BroadcastState}
 use Rattle.tipc_types.specs.declared.node_calls.Answer.TheVariants as answer
+use Rattle.tipc_broadcast.specs.Casting.{shown}
 use Rattle.tipc_types.specs.declared.node_calls.Arrival.{Arrival}
 use Rattle.tipc_types.specs.declared.node_calls.Arrival.TheVariants as arrival
 use Rattle.tipc_types.specs.declared.node_calls.By.{By}
@@ -27,8 +29,9 @@ use Rattle.tipc_pair.specs.PairTurns.Opening.{hears}
 use Rattle.tipc_pair.specs.Messages.{opened_in}
 use Rattle.tipc_sockets.specs.SocketTables.{AreSockets}
 use Rattle.tipc_node.specs.declared.neighbours.Neighbour.{Neighbour}
-use Rattle.tipc_node.specs.Arrivals.{Arrives, Hears, answered_work, heard_work}
-use Rattle.tipc_node.specs.Neighbours.{HearsAt, heard_neighbour, no_broadcast}
+use Rattle.tipc_node.specs.Arrivals.{Arrives, Hears, answered_work, heard_casting, heard_work}
+use Rattle.tipc_node.specs.Casting.{stated_in}
+use Rattle.tipc_node.specs.Neighbours.{HearsAt, heard_neighbour}
 use Rattle.tipc_node.specs.Nodes.{NodeState, arrival_deliveries, change_entries, delivery_of, neighbour_of, shown_contact, step_of, stop_of}
 use Rattle.tipc_node.specs.Telling.{IsTold}
 use Rattle.tipc_pair.specs.LinkReadings.{AreAbreast}
@@ -70,19 +73,20 @@ low_words : (peer low : ℕ) → low < node_word 0 → (node_word peer == low) �
 low_words peer low below = grind (arith, nat_tests, below)
 
 -- what the packet did to the pair is as its changes tell
-abbrev HeardSo : Neighbour → (bearer first second number : ℕ) → Fields → Outset → Type 0
-HeardSo x bearer first second number p o = HappenedSo x.pair (hears bearer first second p number (no_broadcast x.in_step)) o
+abbrev HeardSo : Neighbour → (bearer first second number : ℕ) → Fields → BroadcastState → Outset → Type 0
+HeardSo x bearer first second number p shown o = HappenedSo x.pair (hears bearer first second p number shown) o
 
-heard_so : (n : NodeState) (bearer peer first second number : ℕ) (x : Neighbour) (p : Fields) (o : Outset) → IsTold n → neighbour_of n peer ≡ Some x → HearsAt x bearer first second p number o → HeardSo x bearer first second number p o
-heard_so n bearer peer first second number x p o h was heard =
+heard_so : (n : NodeState) (bearer peer first second number : ℕ) (x : Neighbour) (p : Fields) (shown : BroadcastState) (o : Outset) → IsTold n → neighbour_of n peer ≡ Some x → HearsAt x bearer first second p number shown o
+    → HeardSo x bearer first second number p shown o
+heard_so n bearer peer first second number x p shown o h was heard =
     let abreast = subst (λ a. IfSome a AreAbreast) (ap (option_map (λ (y : Neighbour). y.pair)) was) (h.links peer).abreast in
-    happened_so x.pair (hears bearer first second p number (no_broadcast x.in_step)) o (on_bearers x.pair abreast) tt heard
+    happened_so x.pair (hears bearer first second p number shown) o (on_bearers x.pair abreast) tt heard
 
-heard_linked : (n : NodeState) (peer : ℕ) (x : Neighbour) (p : Fields) (o : Outset) → IsTold n → neighbour_of n peer ≡ Some x → Tells x.pair o.course → IsLinked n (heard_work n peer x p o)
-heard_linked n peer x p o h was tells = record { contacts = λ a. contacts a (cases_lt a.word (node_word 0)); two = λ b z there. two_at b z there (cases_eq b peer); nobody = nobody }
+heard_linked : (n : NodeState) (peer : ℕ) (x : Neighbour) (o : Outset) → IsTold n → neighbour_of n peer ≡ Some x → Tells x.pair o.course → IsLinked n (heard_work n peer x o)
+heard_linked n peer x o h was tells = record { contacts = λ a. contacts a (cases_lt a.word (node_word 0)); two = λ b z there. two_at b z there (cases_eq b peer); nobody = nobody }
   where
     y : Neighbour
-    y = heard_neighbour x p o
+    y = heard_neighbour x o
 
     xs : List (Option Neighbour)
     xs = slice_set n.neighbours peer (Some y)
@@ -140,12 +144,12 @@ heard_linked n peer x p o h was tells = record { contacts = λ a. contacts a (ca
         subst (λ (v : Neighbour). v.pair.bearer ≤ 1) same (omega (arith, bearer, most))
     two_at b z there (inr other) = before.two b z (sym (get_or-set_other n.neighbours peer b (Some y) None other) ∙ there)
 
-heard_worked : (n : NodeState) (peer : ℕ) (x : Neighbour) (p : Fields) (o : Outset) → IsTold n → neighbour_of n peer ≡ Some x → (node_word peer == n.own) ≡ false → Tells x.pair o.course → IsDone n NothingDue [] [] (heard_work n peer x p o)
-heard_worked n peer x p o h was other tells =
-    let xs = slice_set n.neighbours peer (Some (heard_neighbour x p o)) in
+heard_worked : (n : NodeState) (peer : ℕ) (x : Neighbour) (o : Outset) → IsTold n → neighbour_of n peer ≡ Some x → (node_word peer == n.own) ≡ false → Tells x.pair o.course → IsDone n NothingDue [] [] (heard_work n peer x o)
+heard_worked n peer x o h was other tells =
+    let xs = slice_set n.neighbours peer (Some (heard_neighbour x o)) in
     let beside = worked_beside n NothingDue NothingDue [] [] (begun n) xs (begun_worked n NothingDue h) in (
       all_noted n NothingDue [] [] (record (begun n) { neighbours = xs }) (change_entries peer o.course.changes) beside (changes_quiet n.own peer o.course.changes other),
-      heard_linked n peer x p o h was tells,
+      heard_linked n peer x o h was tells,
     )
 
 -- ---- where something is delivered there is contact
@@ -161,10 +165,10 @@ peer_place xs peer x y was =
     ∙ ap (option_and_then (λ (z : Neighbour). contact_between z.pair)) (set_there xs peer x y was)
 
 heard_in_contact : (n n' : NodeState) (by : By) (bearer number : ℕ) (bytes : List ℕ) (frames : List Outgoing) (answered : Arrival) (heard : Hears n n' by bearer number bytes frames answered)
-    → HeardSo heard.neighbour bearer heard.first heard.second number heard.packet heard.out
-    → IsInContact heard.peer (heard_work n heard.peer heard.neighbour heard.packet heard.out) (arrival_deliveries Zero heard.peer heard.neighbour.pair heard.out.given)
+    → HeardSo heard.neighbour bearer heard.first heard.second number heard.packet (shown n.casting (node_word heard.peer)) heard.out
+    → IsInContact heard.peer (heard_work n heard.peer heard.neighbour heard.out) (arrival_deliveries Zero heard.peer heard.neighbour.pair heard.out.given)
 heard_in_contact n n' by bearer number bytes frames answered heard so d ds some =
-    let y = heard_neighbour heard.neighbour heard.packet heard.out in
+    let y = heard_neighbour heard.neighbour heard.out in
     let opened = mapped_some (delivery_of Zero heard.peer (shown_contact heard.neighbour.pair)) (opened_in heard.out.given) d ds some in
     let lasts = so.lasts opened.0 opened.1 opened.2 in
     ap is_some (peer_place n.neighbours heard.peer heard.neighbour y heard.was) ∙ contact_is_some y.pair ∙ lasts.0
@@ -186,18 +190,18 @@ heard_told : (n n' : NodeState) (by : By) (bearer number : ℕ) (bytes : List �
 heard_told n n' by bearer number bytes frames answered inside h passes heard t sound =
     let x = heard.neighbour in
     let other = sender_other n bearer bytes heard.peer heard.first heard.second heard.packet heard.due passes in
-    let so = heard_so n bearer heard.peer heard.first heard.second number x heard.packet heard.out h heard.was heard.hears in
-    let first = heard_worked n heard.peer x heard.packet heard.out h heard.was other so.tells in
+    let so = heard_so n bearer heard.peer heard.first heard.second number x heard.packet (shown n.casting (node_word heard.peer)) heard.out h heard.was heard.hears in
+    let first = heard_worked n heard.peer x heard.out h heard.was other so.tells in
     let given = all_given heard.peer (shown_contact x.pair) (opened_in heard.out.given) in
     let ds = arrival_deliveries Zero heard.peer x.pair heard.out.given in
-    let start = heard_work n heard.peer x heard.packet heard.out in
+    let start = heard_work n heard.peer x heard.out in
     let told : IsDone n NothingDue [] [] heard.greeted = (
       puts_each_worked n NothingDue [] [] start heard.peer heard.greeting heard.greeted heard.greeting_frames first.0 (greets_items n.sockets.live heard.out.course.changes heard.greeting heard.greets) heard.greeting_put,
       puts_each_linked n heard.peer start heard.greeting heard.greeted heard.greeting_frames first.1 heard.greeting_put,
     ) in
     let up = still_in_contact n.own heard.peer start heard.greeting heard.greeted heard.greeting_frames ds heard.greeting_put (heard_in_contact n n' by bearer number bytes frames answered heard so) in
     let done = all_delivered n NothingDue [] [] heard.peer heard.greeted ds heard.work heard.returned other told given up heard.delivers in
-    let w = answered_work heard.work heard.peer bearer heard.then in
+    let w = answered_work heard.work heard.peer bearer (stated_in heard.packet.header heard.out.given) (heard_casting n heard.peer heard.packet heard.out) heard.then in
     let worked = worked_beside n NothingDue NothingDue [] [] heard.work w.neighbours done.0 in
     call_told n n' bytes by (event.Arrive bearer number) inside (answer.Arrived answered) (answer.Arrived answered) frames w w.sockets h t (ap (λ (k : NodeState). k.journal) heard.after) (ap (λ (k : NodeState). k.sockets) heard.after) sound
     (arrived_call n by bearer number answered w h worked)

@@ -16,14 +16,17 @@ use Rattle.tipc_node.specs.declared.neighbours.Neighbour.{Neighbour}
 use Rattle.tipc_node.specs.declared.neighbours.Upkeep.{Upkeep}
 use Rattle.tipc_node.specs.declared.neighbours.Upkeep.TheVariants as upkeep
 use Rattle.tipc_node.specs.Calls.{upkeep_work}
-use Rattle.tipc_node.specs.Neighbours.{course_of, done}
+use Rattle.tipc_node.specs.Neighbours.{Done, course_of, done}
 use Rattle.tipc_pair.specs.Contacts.{begins}
-use Rattle.tipc_node.specs.Nodes.{NodeState, after_all, change_entries, upkeep_note, entries_all, entries_one, neighbour_of}
+use Rattle.tipc_node.specs.Nodes.{NodeState, after_all, change_entries, upkeep_note, entries_all, entries_one, neighbour_of, parts_of}
 use Rattle.tipc_node.specs.Telling.{IsTold}
 use Rattle.tipc_pair.specs.LinkReadings.{AreAbreast}
 use Rattle.tipc_node.specs.Works.{addr_of_word, begun}
 use Rattle.tipc_node.proofs.journal.Calling.{done_answered}
 use Rattle.tipc_node.proofs.journal.Concluding.{IsCall, others_kept}
+use Rattle.tipc_broadcast.specs.Casting.{shown}
+use Rattle.tipc_types.specs.declared.link_words.BroadcastState.{BroadcastState}
+use Rattle.tipc_node.proofs.turns.Parts.{IsPartOf, parts_from}
 use Rattle.tipc_node.proofs.pairs.Calm.{upkeep_happens, opening_of, own_calm}
 use Rattle.tipc_pair.proofs.turns.Moves.{AreSo, Goes, abreast_apt}
 use Rattle.tipc_pair.proofs.turns.TurnMoves.{first_runs}
@@ -57,46 +60,47 @@ apart_quiet own peer (ContactUp numbers ∷ cs) so calm = absurd cc
 apart_quiet own peer (ContactDown numbers states shown ∷ cs) so calm = absurd (let wrong : None ≡ Some numbers = so.0 in cc)
 
 -- so its entries are quiet, also those of the node itself
-upkeep_quiet : (n : NodeState) (b : ℕ) (d : Upkeep) (x : Neighbour) → IsTold n → neighbour_of n b ≡ Some x → AreAbreast x.pair → AreQuiet n.own (change_entries b (done d x).changes)
-upkeep_quiet n b d x h there abreast = by (node_word b == n.own) refl
+upkeep_quiet : (n : NodeState) (b : ℕ) (d : Upkeep) (shown : BroadcastState) (x : Neighbour) → IsTold n → neighbour_of n b ≡ Some x → AreAbreast x.pair → AreQuiet n.own (change_entries b (done d shown x).changes)
+upkeep_quiet n b d shown x h there abreast = by (node_word b == n.own) refl
   where
     cs : List Transition
-    cs = (done d x).changes
+    cs = (done d shown x).changes
 
-    goes : Goes x.pair (course_of d x).pair cs
-    goes = first_runs x.pair (opening_of d x) (quietly (course_of d x)) (abreast_apt x.pair abreast) (upkeep_happens d x).2 (upkeep_happens d x).0
+    goes : Goes x.pair (course_of d shown x).pair cs
+    goes = first_runs x.pair (opening_of d shown x) (quietly (course_of d shown x)) (abreast_apt x.pair abreast) (upkeep_happens d shown x).2 (upkeep_happens d shown x).0
 
     by : (mine : Bool) → (node_word b == n.own) ≡ mine → AreQuiet n.own (change_entries b cs)
     by false other = changes_quiet n.own b cs other
-    by true same = apart_quiet n.own b cs (subst (λ z. AreSo z cs) (self_apart n b x h there same) goes.so) (own_calm x.pair (opening_of d x) (quietly (course_of d x)) (upkeep_happens d x).1 (upkeep_happens d x).0).0
+    by true same = apart_quiet n.own b cs (subst (λ z. AreSo z cs) (self_apart n b x h there same) goes.so) (own_calm x.pair (opening_of d shown x) (quietly (course_of d shown x)) (upkeep_happens d shown x).1 (upkeep_happens d shown x).0).0
 
--- the neighbours from a number on are those of the node
-abbrev AreOf : NodeState → ℕ → List (Option Neighbour) → Type 0
-AreOf n first xs = (k : ℕ) (x : Neighbour) → slice_index_or xs k None ≡ Some x → neighbour_of n (first + k) ≡ Some x
+-- the parts from a number on came of neighbours of the node
+abbrev AreOf : NodeState → Upkeep → ℕ → List (Option Done) → Type 0
+AreOf n d first os = (k : ℕ) (y : Done) → slice_index_or os k None ≡ Some y → IsPartOf n d (first + k) y
 
-first_quiet : (n : NodeState) (d : Upkeep) (first : ℕ) (x : Option Neighbour) (xs : List (Option Neighbour)) → IsTold n → AreOf n first (x ∷ xs) → AreQuiet n.own (entries_one d first x)
-first_quiet n d first None xs h all = tt
-first_quiet n d first (Some x) xs h all =
-    let there : neighbour_of n first ≡ Some x = subst (λ k. neighbour_of n k ≡ Some x) (omega arith) (all 0 x refl) in
-    let abreast = subst (λ o. IfSome o AreAbreast) (ap (option_map (λ (y : Neighbour). y.pair)) there) (h.links first).abreast in
-    upkeep_quiet n first d x h there abreast
+first_quiet : (n : NodeState) (d : Upkeep) (first : ℕ) (o : Option Done) (os : List (Option Done)) → IsTold n → AreOf n d first (o ∷ os) → AreQuiet n.own (entries_one first o)
+first_quiet n d first None os h all = tt
+first_quiet n d first (Some y) os h all =
+    let part : IsPartOf n d first y = subst (λ k. IsPartOf n d k y) (omega arith) (all 0 y refl) in
+    let there = part.there in
+    let abreast = subst (λ o. IfSome o AreAbreast) (ap (option_map (λ (z : Neighbour). z.pair)) there) (h.links first).abreast in
+    subst (λ (z : Done). AreQuiet n.own (change_entries first z.changes)) (sym part.is) (upkeep_quiet n first d (shown part.link (node_word first)) part.neighbour h there abreast)
 
-all_quiet : (n : NodeState) (d : Upkeep) (first : ℕ) (xs : List (Option Neighbour)) → IsTold n → AreOf n first xs → AreQuiet n.own (entries_all d first xs)
+all_quiet : (n : NodeState) (d : Upkeep) (first : ℕ) (os : List (Option Done)) → IsTold n → AreOf n d first os → AreQuiet n.own (entries_all first os)
 unfolding entries_all
 all_quiet n d first [] h all = tt
-all_quiet n d first (x ∷ xs) h all =
-    quiet_both n.own (entries_one d first x) (entries_all d (first + 1) xs) (first_quiet n d first x xs h all)
-    (all_quiet n d (first + 1) xs h (λ k y there. subst (λ j. neighbour_of n j ≡ Some y) (omega arith) (all (suc k) y there)))
+all_quiet n d first (o ∷ os) h all =
+    quiet_both n.own (entries_one first o) (entries_all (first + 1) os) (first_quiet n d first o os h all)
+    (all_quiet n d (first + 1) os h (λ k y there. subst (λ j. IsPartOf n d j y) (omega arith) (all (suc k) y there)))
 
 -- ---- the call
 
 -- the work on what happens to all neighbours, whose entries are quiet
-pub upkeep_worked : (n : NodeState) (d : Upkeep) → IsTold n → IsWorked n NothingDue NothingDue [] [] (upkeep_work d n) × AreQuiet n.own (entries_all d 0 n.neighbours)
+pub upkeep_worked : (n : NodeState) (d : Upkeep) → IsTold n → IsWorked n NothingDue NothingDue [] [] (upkeep_work d n) × AreQuiet n.own (entries_all 0 (parts_of d n))
 upkeep_worked n d h =
-    let es = entries_all d 0 n.neighbours in
-    let quiet : AreQuiet n.own es = all_quiet n d 0 n.neighbours h (λ k x there. subst (λ j. neighbour_of n j ≡ Some x) (omega arith) there) in (
-      all_noted n NothingDue [] [] (record (begun n) { neighbours = after_all d n.neighbours }) es
-          (worked_beside n NothingDue NothingDue [] [] _ (after_all d n.neighbours) (begun_worked n NothingDue h)) quiet,
+    let es = entries_all 0 (parts_of d n) in
+    let quiet : AreQuiet n.own es = all_quiet n d 0 (parts_of d n) h (λ k y there. subst (λ j. IsPartOf n d j y) (omega arith) (parts_from n d k y there)) in (
+      all_noted n NothingDue [] [] (record (begun n) { neighbours = after_all (parts_of d n) }) es
+          (worked_beside n NothingDue NothingDue [] [] _ (after_all (parts_of d n)) (begun_worked n NothingDue h)) quiet,
       quiet,
     )
 

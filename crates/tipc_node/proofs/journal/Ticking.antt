@@ -29,7 +29,9 @@ use Rattle.tipc_node.specs.declared.neighbours.Upkeep.TheVariants as upkeep
 use Rattle.tipc_node.specs.Calls.{tick_plan, tick_work, upkeep_plan, upkeep_work}
 use Rattle.tipc_node.specs.declared.neighbours.Neighbour.{Neighbour}
 use Rattle.tipc_node.specs.Discovery.{next_tick}
-use Rattle.tipc_node.specs.Nodes.{NodeState, after_all, upkeep_note, entries_all, is_change, mended_by, step_of}
+use Rattle.tipc_broadcast.specs.Casting.{Casting}
+use Rattle.tipc_broadcast.specs.Deeds.{after_deeds}
+use Rattle.tipc_node.specs.Nodes.{NodeState, after_all, upkeep_note, entries_all, is_change, mended_by, parts_of, step_of, upkeep_deeds}
 use Rattle.tipc_node.specs.Plans.{concluded_by}
 use Rattle.tipc_node.specs.Sockets.{timeouts_of}
 use Rattle.tipc_node.specs.Telling.{IsTold}
@@ -103,7 +105,7 @@ before_pass n = noted (upkeep_work upkeep.Tick n) (timeouts_of n.sockets)
 pub tick_call : (n : NodeState) (by : By) → IsTold n → IsInside (tick_work n).inside → IsCall n by event.Tick answer.Done (before_pass n) (tick_work n).sockets
 tick_call n by h inner =
     let own = addr_of_word n.own in
-    let es = entries_all upkeep.Tick 0 n.neighbours in
+    let es = entries_all 0 (parts_of upkeep.Tick n) in
     let numbers = due n.sockets.watchers.kept in
     let first = upkeep_worked n upkeep.Tick h in
     let s = (upkeep_work upkeep.Tick n).sockets in
@@ -112,7 +114,7 @@ tick_call n by h inner =
     ap (λ (ns : List ℕ). map entry.TimedOut ns) (timeouts_told n.journal [] (events_given n.journal) n.sockets.watchers refl (h.sockets.told NothingDue).watchers) in
     let worked = subst (λ es. IsWorked n NothingDue NothingDue [] es (before_pass n)) asked ends in
     let st = step_of by event.Tick (before_pass n).inside answer.Done in
-    let changes : list_all is_change es ≡ true = all_changes upkeep.Tick 0 n.neighbours in
+    let changes : list_all is_change es ≡ true = all_changes 0 (parts_of upkeep.Tick n) in
     let same : due s.watchers.kept ≡ numbers = due_changes n.sockets es changes in
     let ended : (before_pass n).sockets ≡ with_watchers s (fold (λ t number. ended_at number t) s.watchers (due s.watchers.kept)) =
     ends_each s numbers ∙ ap (λ (ns : List ℕ). with_watchers s (fold (λ t number. ended_at number t) s.watchers ns)) (sym same) in
@@ -136,16 +138,16 @@ tick_call n by h inner =
 -- ---- the node after it
 
 -- the parts of the node are those of the work on a tick
-pub ticks_from : (n : NodeState) (by : By) (ticks : ℕ) (xs : List (Option Neighbour)) (mid s : SocketTable) (journal : List Entry) → ticks ≡ next_tick n.ticks → xs ≡ after_all upkeep.Tick n.neighbours
-    → mid ≡ fold after_entry n.sockets (entries_all upkeep.Tick 0 n.neighbours)
+pub ticks_from : (n : NodeState) (by : By) (ticks : ℕ) (v : Casting) (xs : List (Option Neighbour)) (mid s : SocketTable) (journal : List Entry) → ticks ≡ next_tick n.ticks → v ≡ after_deeds (upkeep_deeds upkeep.Tick n) n.casting → xs ≡ after_all (parts_of upkeep.Tick n)
+    → mid ≡ fold after_entry n.sockets (entries_all 0 (parts_of upkeep.Tick n))
     → s ≡ with_watchers mid (passed (fold (λ t number. ended_at number t) mid.watchers (due mid.watchers.kept)))
-    → journal ≡ n.journal ++ step_entries (step_of by event.Tick (entries_all upkeep.Tick 0 n.neighbours ++ timeouts_of n.sockets) answer.Done)
-    → record n { ticks = ticks; neighbours = xs; sockets = s; journal = journal } ≡ concluded_by n by event.Tick (tick_plan n) (tick_work n)
-ticks_from n by ticks xs mid s journal counted neighbours between passes told =
-    (λ i. record n { ticks = counted i; neighbours = neighbours i; sockets = sockets i; journal = told i })
+    → journal ≡ n.journal ++ step_entries (step_of by event.Tick (entries_all 0 (parts_of upkeep.Tick n) ++ timeouts_of n.sockets) answer.Done)
+    → record n { ticks = ticks; neighbours = xs; sockets = s; journal = journal; casting = v } ≡ concluded_by n by event.Tick (tick_plan n) (tick_work n)
+ticks_from n by ticks v xs mid s journal counted cast neighbours between passes told =
+    (λ i. record n { ticks = counted i; neighbours = neighbours i; sockets = sockets i; journal = told i; casting = cast i })
   where
     first : SocketTable
-    first = fold after_entry n.sockets (entries_all upkeep.Tick 0 n.neighbours)
+    first = fold after_entry n.sockets (entries_all 0 (parts_of upkeep.Tick n))
 
     numbers : List ℕ
     numbers = due n.sockets.watchers.kept
@@ -155,7 +157,7 @@ ticks_from n by ticks xs mid s journal counted neighbours between passes told =
         passes
         ∙ ap (λ (x : SocketTable). with_watchers x (passed (fold (λ t number. ended_at number t) x.watchers (due x.watchers.kept)))) between
         ∙ ap (λ (ns : List ℕ). with_watchers first (passed (fold (λ t number. ended_at number t) first.watchers ns)))
-        (due_changes n.sockets (entries_all upkeep.Tick 0 n.neighbours) (all_changes upkeep.Tick 0 n.neighbours))
+        (due_changes n.sockets (entries_all 0 (parts_of upkeep.Tick n)) (all_changes 0 (parts_of upkeep.Tick n)))
         ∙ sym (ap (λ (x : SocketTable). with_watchers x (passed x.watchers)) (ends_each first numbers))
 
 -- what stands in front of what was added behind it
@@ -163,9 +165,9 @@ pub front_of : (told more all : List Entry) (count : ℕ) → all ≡ told ++ mo
 front_of told more all count is counted = (λ i. take (counted i) (is i)) ∙ take-append_seam told more
 
 -- the parts of the node are those of the work on all neighbours
-pub takes_from : (n : NodeState) (by : By) (d : Upkeep) (mended : Bool × Bool) (xs : List (Option Neighbour)) (s : SocketTable) (journal : List Entry) → mended ≡ mended_by d n.mended → xs ≡ after_all d n.neighbours
-    → s ≡ fold after_entry n.sockets (entries_all d 0 n.neighbours)
-    → journal ≡ n.journal ++ step_entries (step_of by (upkeep_note d) (entries_all d 0 n.neighbours) answer.Done)
-    → record n { mended = mended; neighbours = xs; sockets = s; journal = journal } ≡ concluded_by n by (upkeep_note d) (upkeep_plan n d) (upkeep_work d n)
-takes_from n by d mended xs s journal repaired neighbours sockets told =
-    (λ i. record n { mended = repaired i; neighbours = neighbours i; sockets = sockets i; journal = told i })
+pub takes_from : (n : NodeState) (by : By) (d : Upkeep) (mended : Bool × Bool) (v : Casting) (xs : List (Option Neighbour)) (s : SocketTable) (journal : List Entry) → mended ≡ mended_by d n.mended → v ≡ after_deeds (upkeep_deeds d n) n.casting → xs ≡ after_all (parts_of d n)
+    → s ≡ fold after_entry n.sockets (entries_all 0 (parts_of d n))
+    → journal ≡ n.journal ++ step_entries (step_of by (upkeep_note d) (entries_all 0 (parts_of d n)) answer.Done)
+    → record n { mended = mended; neighbours = xs; sockets = s; journal = journal; casting = v } ≡ concluded_by n by (upkeep_note d) (upkeep_plan n d) (upkeep_work d n)
+takes_from n by d mended v xs s journal repaired cast neighbours sockets told =
+    (λ i. record n { mended = repaired i; neighbours = neighbours i; sockets = sockets i; journal = told i; casting = cast i })

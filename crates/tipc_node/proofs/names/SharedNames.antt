@@ -21,7 +21,7 @@ use Rattle.tipc_topology.specs.Changing.{due}
 use Rattle.tipc_name_dist.specs.Items.{telling}
 use Rattle.tipc_node.specs.declared.neighbours.Upkeep.TheVariants as upkeep
 use Rattle.tipc_node.specs.Calls.{HasInstances, IsChosen, Performs, name_plan, plan_of}
-use Rattle.tipc_node.specs.Nodes.{NodeState, entries_all, step_of}
+use Rattle.tipc_node.specs.Nodes.{NodeState, entries_all, parts_of, step_of}
 use Rattle.tipc_node.specs.Plans.{CarriesOut, Does, DoesUnless, Plan, Dispatch, frames_alone, on_its_way, to_peers}
 use Rattle.tipc_node.specs.Sharing.{SharesNames}
 use Rattle.tipc_node.specs.Sockets.{crowd_refusal, kept_answer, publication_refusal, timeouts_of, told_withdrawal, withdrawal_refusal}
@@ -106,9 +106,9 @@ plan_shared n (event.Subscribe asked) chosen h shares ranges choice none = refl
 plan_shared n (event.Cancel number) chosen h shares ranges choice none = refl
 plan_shared n (event.NextEvent number) chosen h shares ranges choice none = refl
 plan_shared n event.Tick chosen h shares ranges choice none =
-    all_both is_usual (entries_all upkeep.Tick 0 n.neighbours) (timeouts_of n.sockets) (all_usual upkeep.Tick 0 n.neighbours) (timed_usual (due n.sockets.watchers.kept))
-plan_shared n (event.Cut bearer) chosen h shares ranges choice none = all_usual (upkeep.Cut bearer) 0 n.neighbours
-plan_shared n (event.Mend bearer) chosen h shares ranges choice none = all_usual (upkeep.Mend bearer) 0 n.neighbours
+    all_both is_usual (entries_all 0 (parts_of upkeep.Tick n)) (timeouts_of n.sockets) (all_usual 0 (parts_of upkeep.Tick n)) (timed_usual (due n.sockets.watchers.kept))
+plan_shared n (event.Cut bearer) chosen h shares ranges choice none = all_usual 0 (parts_of (upkeep.Cut bearer) n)
+plan_shared n (event.Mend bearer) chosen h shares ranges choice none = all_usual 0 (parts_of (upkeep.Mend bearer) n)
 plan_shared n (event.Multicast port kind lower upper importance body) chosen h shares ranges choice none = absurd choice
 plan_shared n (event.Arrive bearer number) chosen h shares ranges choice none = absurd choice
 

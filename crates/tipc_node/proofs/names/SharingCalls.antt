@@ -21,9 +21,7 @@ use Rattle.tipc_pair.specs.declared.transitions.Transition.TheVariants.{ContactD
 use Rattle.tipc_sockets.specs.declared.fates.Fate.{Fate}
 use Rattle.tipc_sockets.specs.declared.fates.Fate.TheVariants.{Dropped, Queued, ReturnDropped, Returned}
 use Rattle.tipc_sockets.specs.Telling.{fate_entry, is_payload}
-use Rattle.tipc_node.specs.declared.neighbours.Upkeep.{Upkeep}
-use Rattle.tipc_node.specs.declared.neighbours.Neighbour.{Neighbour}
-use Rattle.tipc_node.specs.Neighbours.{done}
+use Rattle.tipc_node.specs.Neighbours.{Done}
 use Rattle.tipc_node.specs.Nodes.{NodeState, change_entries, entries_all, entries_one, step_of}
 use Rattle.tipc_node.specs.Sharing.{SharesNames, flow_with}
 use Rattle.tipc_name_dist.specs.Told.{HasTold}
@@ -146,14 +144,14 @@ changes_usual b (LinkDown bearer because shown ∷ cs) = changes_usual b cs
 changes_usual b (ContactUp numbers ∷ cs) = changes_usual b cs
 changes_usual b (ContactDown numbers states shown ∷ cs) = changes_usual b cs
 
-one_usual : (d : Upkeep) (first : ℕ) (o : Option Neighbour) → list_all is_usual (entries_one d first o) ≡ true
-one_usual d first None = refl
-one_usual d first (Some x) = changes_usual first (done d x).changes
+one_usual : (first : ℕ) (o : Option Done) → list_all is_usual (entries_one first o) ≡ true
+one_usual first None = refl
+one_usual first (Some x) = changes_usual first x.changes
 
-pub all_usual : (d : Upkeep) (first : ℕ) (xs : List (Option Neighbour)) → list_all is_usual (entries_all d first xs) ≡ true
+pub all_usual : (first : ℕ) (os : List (Option Done)) → list_all is_usual (entries_all first os) ≡ true
 unfolding entries_all
-all_usual d first [] = refl
-all_usual d first (x ∷ xs) = all_both is_usual (entries_one d first x) (entries_all d (first + 1) xs) (one_usual d first x) (all_usual d (first + 1) xs)
+all_usual first [] = refl
+all_usual first (o ∷ os) = all_both is_usual (entries_one first o) (entries_all (first + 1) os) (one_usual first o) (all_usual (first + 1) os)
 
 -- ---- a tick
 

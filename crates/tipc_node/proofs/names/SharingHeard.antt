@@ -30,7 +30,8 @@ use Rattle.tipc_sockets.specs.SocketTables.{SocketTable}
 use Rattle.tipc_sockets.specs.Telling.{after_entry, is_payload}
 use Rattle.tipc_node.specs.declared.neighbours.Neighbour.{Neighbour}
 use Rattle.tipc_node.specs.Arrivals.{Greets, Hears, heard_work}
-use Rattle.tipc_node.specs.Neighbours.{heard_neighbour, no_broadcast}
+use Rattle.tipc_node.specs.Neighbours.{heard_neighbour}
+use Rattle.tipc_broadcast.specs.Casting.{shown}
 use Rattle.tipc_pair.specs.Contacts.{is_of_contact}
 use Rattle.tipc_node.specs.Nodes.{NodeState, change_entries, deliveries_of, neighbour_of, shown_contact}
 use Rattle.tipc_node.specs.Sharing.{flow_with}
@@ -137,9 +138,9 @@ pub heard_at : (n n' : NodeState) (by : By) (bearer number : ℕ) (bytes : List 
 heard_at n n' by bearer number bytes frames answered told h =
     let x = h.neighbour.pair in
     let abreast = subst (λ o. IfSome o AreAbreast) (ap (option_map (λ (z : Neighbour). z.pair)) h.was) (told.links h.peer).abreast in
-    let so = happened_so x (hears bearer h.first h.second h.packet number (no_broadcast h.neighbour.in_step)) h.out (on_bearers x abreast) tt h.hears in
-    let start = heard_work n h.peer h.neighbour h.packet h.out in
-    let y = heard_neighbour h.neighbour h.packet h.out in
+    let so = happened_so x (hears bearer h.first h.second h.packet number (shown n.casting (node_word h.peer))) h.out (on_bearers x abreast) tt h.hears in
+    let start = heard_work n h.peer h.neighbour h.out in
+    let y = heard_neighbour h.neighbour h.out in
     let c = shown_contact h.out.course.pair in
     let changes = h.out.course.changes in
     let shows : numbers_at start.neighbours h.peer ≡ c = numbers_of (slice_index_or start.neighbours h.peer None) y (set_there n.neighbours h.peer h.neighbour y h.was) in

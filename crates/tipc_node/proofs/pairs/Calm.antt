@@ -23,7 +23,7 @@ use Rattle.tipc_pair.proofs.EndSteps.{cut_quiet}
 use Rattle.tipc_node.specs.declared.neighbours.Upkeep.{Upkeep}
 use Rattle.tipc_node.specs.declared.neighbours.Upkeep.TheVariants as upkeep
 use Rattle.tipc_node.specs.declared.neighbours.Neighbour.{Neighbour}
-use Rattle.tipc_node.specs.Neighbours.{course_of, no_broadcast}
+use Rattle.tipc_node.specs.Neighbours.{course_of}
 use Rattle.tipc_pair.specs.Contacts.{begins, is_beginning}
 use Rattle.tipc_pair.proofs.acts.Walks.{tested}
 
@@ -117,13 +117,13 @@ own_calm x (hears bearer es er p by shown) o own is = absurd own
 
 -- ---- what happens to all neighbours alike
 
-abbrev pub opening_of : Upkeep → Neighbour → Opening
-opening_of (upkeep.Mend bearer) x = mends bearer
-opening_of (upkeep.Cut bearer) x = cuts bearer
-opening_of upkeep.Tick x = ticks (no_broadcast x.in_step)
+abbrev pub opening_of : Upkeep → BroadcastState → Neighbour → Opening
+opening_of (upkeep.Mend bearer) shown x = mends bearer
+opening_of (upkeep.Cut bearer) shown x = cuts bearer
+opening_of upkeep.Tick shown x = ticks shown
 
 -- it happens first at the pair to a neighbour
-pub upkeep_happens : (d : Upkeep) (x : Neighbour) → Happened x.pair (opening_of d x) (quietly (course_of d x)) × IsOwn (opening_of d x) × MakesNew x.pair (opening_of d x)
-upkeep_happens (upkeep.Mend bearer) x = (refl, tt, tt)
-upkeep_happens (upkeep.Cut bearer) x = (refl, tt, tt)
-upkeep_happens upkeep.Tick x = (refl, tt, tt)
+pub upkeep_happens : (d : Upkeep) (shown : BroadcastState) (x : Neighbour) → Happened x.pair (opening_of d shown x) (quietly (course_of d shown x)) × IsOwn (opening_of d shown x) × MakesNew x.pair (opening_of d shown x)
+upkeep_happens (upkeep.Mend bearer) shown x = (refl, tt, tt)
+upkeep_happens (upkeep.Cut bearer) shown x = (refl, tt, tt)
+upkeep_happens upkeep.Tick shown x = (refl, tt, tt)

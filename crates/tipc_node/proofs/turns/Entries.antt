@@ -15,16 +15,18 @@ use Rattle.tipc_reassembly.specs.declared.opening.Opened.TheVariants.{Passed, Wh
 use Rattle.tipc_pair.specs.declared.transitions.Transition.{Transition}
 use Rattle.tipc_pair.specs.declared.transitions.Transition.TheVariants.{ContactDown, ContactUp, LinkDown, LinkUp}
 use Rattle.tipc_node.specs.declared.neighbours.Upkeep.{Upkeep}
-use Rattle.tipc_node.specs.declared.neighbours.Neighbour.{Neighbour}
-use Rattle.tipc_node.specs.Neighbours.{IsOnBearer, done}
+use Rattle.tipc_node.specs.Neighbours.{Done, IsOnBearer}
 use Rattle.tipc_node.specs.Messages.{message_in}
-use Rattle.tipc_node.specs.Nodes.{NodeState, change_entries, change_entry, delivered_by, deliveries_of, entries_all, entries_in, entries_one, neighbour_of, numbered_all, numbered_one, states_all, states_one}
+use Rattle.tipc_node.specs.Nodes.{NodeState, change_entries, change_entry, delivered_by, deliveries_of, entries_all, entries_in, entries_one, deeds_all, deeds_one, neighbour_of, numbered_all, numbered_one, parts_of, states_all, states_one, upkeep_deeds}
 use Rattle.tipc_node.specs.Discovery.{requests_by, upkeep_frames}
 use Rattle.tipc_node.specs.Turns.IsRouted.{on_link}
 use Rattle.tipc_node.specs.Turns.{IsOfNeighbour, IsPlaced, IsRouted, addr_of, delivered_entries, delivered_of, is_accepted_for, is_change_of, is_delivered_from}
 use Rattle.tipc_pair.proofs.turns.Addressing.{AreFor}
 use Rattle.tipc_node.proofs.journal.Telling.{same_word as own_word}
+use Rattle.tipc_broadcast.specs.Deeds.{deeds_frames, is_contact_of, sends_nothing}
 use Rattle.tipc_node.proofs.turns.Discovery.{requests_routed}
+use Rattle.tipc_node.proofs.turns.Parts.{parts_from}
+use Rattle.tipc_node.proofs.work.Casting.{contacts_silent, deeds_other, deeds_own, silent_both}
 
 flat_map_same : {A B : Type 0} (f g : A → List B) (xs : List A) → ((x : A) → f x ≡ g x) → flat_map f xs ≡ flat_map g xs
 flat_map_same f g [] same = refl
@@ -127,94 +129,139 @@ given_other b peer contact (Whole packet by ∷ opened) apart = elim (message_in
 
 -- ---- the entries of what happens to all neighbours; the first of them has that number
 
-one_own : (d : Upkeep) (b : ℕ) (x : Option Neighbour) → filter (is_change_of b) (entries_one d b x) ≡ entries_one d b x
-one_own d b None = refl
-one_own d b (Some x) = changes_own b (done d x).changes
+one_own : (b : ℕ) (x : Option Done) → filter (is_change_of b) (entries_one b x) ≡ entries_one b x
+one_own b None = refl
+one_own b (Some x) = changes_own b x.changes
 
-one_other : (d : Upkeep) (b c : ℕ) (x : Option Neighbour) → c ≢ b → filter (is_change_of b) (entries_one d c x) ≡ []
-one_other d b c None apart = refl
-one_other d b c (Some x) apart = changes_other b c (done d x).changes apart
+one_other : (b c : ℕ) (x : Option Done) → c ≢ b → filter (is_change_of b) (entries_one c x) ≡ []
+one_other b c None apart = refl
+one_other b c (Some x) apart = changes_other b c x.changes apart
 
-none_below : (d : Upkeep) (first : ℕ) (xs : List (Option Neighbour)) (b : ℕ) → b < first → filter (is_change_of b) (entries_all d first xs) ≡ []
+none_below : (first : ℕ) (xs : List (Option Done)) (b : ℕ) → b < first → filter (is_change_of b) (entries_all first xs) ≡ []
 unfolding entries_all
-none_below d first [] b below = refl
-none_below d first (x ∷ xs) b below =
-    filter-append (is_change_of b) (entries_one d first x) (entries_all d (first + 1) xs)
-    ∙ ap (λ es. es ++ filter (is_change_of b) (entries_all d (first + 1) xs)) (one_other d b first x (λ e. omega (arith, below, e)))
-    ∙ none_below d (first + 1) xs b (omega (arith, below))
+none_below first [] b below = refl
+none_below first (x ∷ xs) b below =
+    filter-append (is_change_of b) (entries_one first x) (entries_all (first + 1) xs)
+    ∙ ap (λ es. es ++ filter (is_change_of b) (entries_all (first + 1) xs)) (one_other b first x (λ e. omega (arith, below, e)))
+    ∙ none_below (first + 1) xs b (omega (arith, below))
 
-one_of : (d : Upkeep) (first k : ℕ) (xs : List (Option Neighbour)) (b : ℕ) → first + k ≡ b → filter (is_change_of b) (entries_all d first xs) ≡ entries_one d b (slice_index_or xs k None)
+one_of : (first k : ℕ) (xs : List (Option Done)) (b : ℕ) → first + k ≡ b → filter (is_change_of b) (entries_all first xs) ≡ entries_one b (slice_index_or xs k None)
 unfolding entries_all
-one_of d first k [] b is = refl
-one_of d first zero (x ∷ xs) b is =
+one_of first k [] b is = refl
+one_of first zero (x ∷ xs) b is =
     let here : first ≡ b = omega (arith, is) in
-    filter-append (is_change_of b) (entries_one d first x) (entries_all d (first + 1) xs)
-    ∙ ap (λ es. filter (is_change_of b) (entries_one d first x) ++ es) (none_below d (first + 1) xs b (omega (arith, here))) ∙ append-nil _
-    ∙ ap (λ c. filter (is_change_of b) (entries_one d c x)) here ∙ one_own d b x
-one_of d first (suc k) (x ∷ xs) b is =
-    filter-append (is_change_of b) (entries_one d first x) (entries_all d (first + 1) xs)
-    ∙ ap (λ es. es ++ filter (is_change_of b) (entries_all d (first + 1) xs)) (one_other d b first x (λ e. omega (arith, is, e)))
-    ∙ one_of d (first + 1) k xs b (omega (arith, is))
+    filter-append (is_change_of b) (entries_one first x) (entries_all (first + 1) xs)
+    ∙ ap (λ es. filter (is_change_of b) (entries_one first x) ++ es) (none_below (first + 1) xs b (omega (arith, here))) ∙ append-nil _
+    ∙ ap (λ c. filter (is_change_of b) (entries_one c x)) here ∙ one_own b x
+one_of first (suc k) (x ∷ xs) b is =
+    filter-append (is_change_of b) (entries_one first x) (entries_all (first + 1) xs)
+    ∙ ap (λ es. es ++ filter (is_change_of b) (entries_all (first + 1) xs)) (one_other b first x (λ e. omega (arith, is, e)))
+    ∙ one_of (first + 1) k xs b (omega (arith, is))
 
-pub all_changes : (d : Upkeep) (xs : List (Option Neighbour)) (b : ℕ) → filter (is_change_of b) (entries_all d 0 xs) ≡ entries_one d b (slice_index_or xs b None)
-all_changes d xs b = one_of d 0 b xs b (omega arith)
+pub all_changes : (xs : List (Option Done)) (b : ℕ) → filter (is_change_of b) (entries_all 0 xs) ≡ entries_one b (slice_index_or xs b None)
+all_changes xs b = one_of 0 b xs b (omega arith)
 
-one_accept : (d : Upkeep) (b c : ℕ) (x : Option Neighbour) → filter (is_accepted_for b) (entries_one d c x) ≡ []
-one_accept d b c None = refl
-one_accept d b c (Some x) = changes_accept b c (done d x).changes
+one_accept : (b c : ℕ) (x : Option Done) → filter (is_accepted_for b) (entries_one c x) ≡ []
+one_accept b c None = refl
+one_accept b c (Some x) = changes_accept b c x.changes
 
-pub all_accept : (d : Upkeep) (b first : ℕ) (xs : List (Option Neighbour)) → filter (is_accepted_for b) (entries_all d first xs) ≡ []
+pub all_accept : (b first : ℕ) (xs : List (Option Done)) → filter (is_accepted_for b) (entries_all first xs) ≡ []
 unfolding entries_all
-all_accept d b first [] = refl
-all_accept d b first (x ∷ xs) =
-    filter-append (is_accepted_for b) (entries_one d first x) (entries_all d (first + 1) xs)
-    ∙ ap (λ es. es ++ filter (is_accepted_for b) (entries_all d (first + 1) xs)) (one_accept d b first x) ∙ all_accept d b (first + 1) xs
+all_accept b first [] = refl
+all_accept b first (x ∷ xs) =
+    filter-append (is_accepted_for b) (entries_one first x) (entries_all (first + 1) xs)
+    ∙ ap (λ es. es ++ filter (is_accepted_for b) (entries_all (first + 1) xs)) (one_accept b first x) ∙ all_accept b (first + 1) xs
 
-one_deliver : (d : Upkeep) (b c : ℕ) (x : Option Neighbour) → filter (is_delivered_from b) (entries_one d c x) ≡ []
-one_deliver d b c None = refl
-one_deliver d b c (Some x) = changes_deliver b c (done d x).changes
+one_deliver : (b c : ℕ) (x : Option Done) → filter (is_delivered_from b) (entries_one c x) ≡ []
+one_deliver b c None = refl
+one_deliver b c (Some x) = changes_deliver b c x.changes
 
-pub all_deliver : (d : Upkeep) (b first : ℕ) (xs : List (Option Neighbour)) → filter (is_delivered_from b) (entries_all d first xs) ≡ []
+pub all_deliver : (b first : ℕ) (xs : List (Option Done)) → filter (is_delivered_from b) (entries_all first xs) ≡ []
 unfolding entries_all
-all_deliver d b first [] = refl
-all_deliver d b first (x ∷ xs) =
-    filter-append (is_delivered_from b) (entries_one d first x) (entries_all d (first + 1) xs)
-    ∙ ap (λ es. es ++ filter (is_delivered_from b) (entries_all d (first + 1) xs)) (one_deliver d b first x) ∙ all_deliver d b (first + 1) xs
+all_deliver b first [] = refl
+all_deliver b first (x ∷ xs) =
+    filter-append (is_delivered_from b) (entries_one first x) (entries_all (first + 1) xs)
+    ∙ ap (λ es. es ++ filter (is_delivered_from b) (entries_all (first + 1) xs)) (one_deliver b first x) ∙ all_deliver b (first + 1) xs
 
-one_inside : (d : Upkeep) (c : ℕ) (x : Option Neighbour) → IsInside (entries_one d c x)
-one_inside d c None = refl
-one_inside d c (Some x) = changes_inside c (done d x).changes
+one_inside : (c : ℕ) (x : Option Done) → IsInside (entries_one c x)
+one_inside c None = refl
+one_inside c (Some x) = changes_inside c x.changes
 
-pub all_inside : (d : Upkeep) (first : ℕ) (xs : List (Option Neighbour)) → IsInside (entries_all d first xs)
+pub all_inside : (first : ℕ) (xs : List (Option Done)) → IsInside (entries_all first xs)
 unfolding entries_all
-all_inside d first [] = refl
-all_inside d first (x ∷ xs) = inside_both (entries_one d first x) (entries_all d (first + 1) xs) (one_inside d first x) (all_inside d (first + 1) xs)
+all_inside first [] = refl
+all_inside first (x ∷ xs) = inside_both (entries_one first x) (entries_all (first + 1) xs) (one_inside first x) (all_inside (first + 1) xs)
 
--- the neighbours from a number on are those of the node
-abbrev AreOf : NodeState → ℕ → List (Option Neighbour) → Type 0
-AreOf n first xs = (k : ℕ) (x : Neighbour) → slice_index_or xs k None ≡ Some x → is_some (neighbour_of n (first + k)) ≡ true
+-- ---- the deeds of all neighbours
 
-first_of : (n : NodeState) (first : ℕ) (x : Neighbour) (xs : List (Option Neighbour)) → AreOf n first (Some x ∷ xs) → is_some (neighbour_of n first) ≡ true
+silent_one : (c : ℕ) (x : Option Done) → list_all sends_nothing (deeds_one c x) ≡ true
+silent_one c None = refl
+silent_one c (Some x) = contacts_silent c x.changes
+
+pub all_silent : (first : ℕ) (xs : List (Option Done)) → list_all sends_nothing (deeds_all first xs) ≡ true
+unfolding deeds_all
+all_silent first [] = refl
+all_silent first (x ∷ xs) = silent_both (deeds_one first x) (deeds_all (first + 1) xs) (silent_one first x) (all_silent (first + 1) xs)
+
+deeds_own_one : (b : ℕ) (x : Option Done) → filter (is_contact_of (node_word b)) (deeds_one b x) ≡ deeds_one b x
+deeds_own_one b None = refl
+deeds_own_one b (Some x) = deeds_own b x.changes
+
+deeds_other_one : (b c : ℕ) (x : Option Done) → c ≢ b → filter (is_contact_of (node_word b)) (deeds_one c x) ≡ []
+deeds_other_one b c None apart = refl
+deeds_other_one b c (Some x) apart = deeds_other c b x.changes (λ e. apart (sym e))
+
+deeds_below : (first : ℕ) (xs : List (Option Done)) (b : ℕ) → b < first → filter (is_contact_of (node_word b)) (deeds_all first xs) ≡ []
+unfolding deeds_all
+deeds_below first [] b below = refl
+deeds_below first (x ∷ xs) b below =
+    filter-append (is_contact_of (node_word b)) (deeds_one first x) (deeds_all (first + 1) xs)
+    ∙ ap (λ ds. ds ++ filter (is_contact_of (node_word b)) (deeds_all (first + 1) xs)) (deeds_other_one b first x (λ e. omega (arith, below, e)))
+    ∙ deeds_below (first + 1) xs b (omega (arith, below))
+
+deeds_of_one : (first k : ℕ) (xs : List (Option Done)) (b : ℕ) → first + k ≡ b → filter (is_contact_of (node_word b)) (deeds_all first xs) ≡ deeds_one b (slice_index_or xs k None)
+unfolding deeds_all
+deeds_of_one first k [] b is = refl
+deeds_of_one first zero (x ∷ xs) b is =
+    let here : first ≡ b = omega (arith, is) in
+    filter-append (is_contact_of (node_word b)) (deeds_one first x) (deeds_all (first + 1) xs)
+    ∙ ap (λ ds. filter (is_contact_of (node_word b)) (deeds_one first x) ++ ds) (deeds_below (first + 1) xs b (omega (arith, here))) ∙ append-nil _
+    ∙ ap (λ c. filter (is_contact_of (node_word b)) (deeds_one c x)) here ∙ deeds_own_one b x
+deeds_of_one first (suc k) (x ∷ xs) b is =
+    filter-append (is_contact_of (node_word b)) (deeds_one first x) (deeds_all (first + 1) xs)
+    ∙ ap (λ ds. ds ++ filter (is_contact_of (node_word b)) (deeds_all (first + 1) xs)) (deeds_other_one b first x (λ e. omega (arith, is, e)))
+    ∙ deeds_of_one (first + 1) k xs b (omega (arith, is))
+
+pub all_deeds : (xs : List (Option Done)) (b : ℕ) → filter (is_contact_of (node_word b)) (deeds_all 0 xs) ≡ deeds_one b (slice_index_or xs b None)
+all_deeds xs b = deeds_of_one 0 b xs b (omega arith)
+
+-- ---- of whom they tell
+
+-- the parts from a number on came of neighbours of the node
+abbrev AreOf : NodeState → ℕ → List (Option Done) → Type 0
+AreOf n first xs = (k : ℕ) (x : Done) → slice_index_or xs k None ≡ Some x → is_some (neighbour_of n (first + k)) ≡ true
+
+first_of : (n : NodeState) (first : ℕ) (x : Done) (xs : List (Option Done)) → AreOf n first (Some x ∷ xs) → is_some (neighbour_of n first) ≡ true
 first_of n first x xs all = subst (λ k. is_some (neighbour_of n k) ≡ true) (omega arith) (all 0 x refl)
 
-later_of : (n : NodeState) (first : ℕ) (x : Option Neighbour) (xs : List (Option Neighbour)) → AreOf n first (x ∷ xs) → AreOf n (first + 1) xs
+later_of : (n : NodeState) (first : ℕ) (x : Option Done) (xs : List (Option Done)) → AreOf n first (x ∷ xs) → AreOf n (first + 1) xs
 later_of n first x xs all k y is = subst (λ j. is_some (neighbour_of n j) ≡ true) (omega arith) (all (suc k) y is)
 
-one_placed : (n : NodeState) (d : Upkeep) (first : ℕ) (x : Option Neighbour) (xs : List (Option Neighbour)) → AreOf n first (x ∷ xs) → All (IsPlaced n) (entries_one d first x)
-one_placed n d first None xs all = All-nil (IsPlaced n)
-one_placed n d first (Some x) xs all = changes_placed n first (done d x).changes (first_of n first x xs all)
+one_placed : (n : NodeState) (first : ℕ) (x : Option Done) (xs : List (Option Done)) → AreOf n first (x ∷ xs) → All (IsPlaced n) (entries_one first x)
+one_placed n first None xs all = All-nil (IsPlaced n)
+one_placed n first (Some x) xs all = changes_placed n first x.changes (first_of n first x xs all)
 
-placed_from : (n : NodeState) (d : Upkeep) (first : ℕ) (xs : List (Option Neighbour)) → AreOf n first xs → All (IsPlaced n) (entries_all d first xs)
+placed_from : (n : NodeState) (first : ℕ) (xs : List (Option Done)) → AreOf n first xs → All (IsPlaced n) (entries_all first xs)
 unfolding entries_all
-placed_from n d first [] all = All-nil (IsPlaced n)
-placed_from n d first (x ∷ xs) all =
-    All-append (IsPlaced n) (entries_one d first x) (entries_all d (first + 1) xs) (one_placed n d first x xs all) (placed_from n d (first + 1) xs (later_of n first x xs all))
+placed_from n first [] all = All-nil (IsPlaced n)
+placed_from n first (x ∷ xs) all =
+    All-append (IsPlaced n) (entries_one first x) (entries_all (first + 1) xs) (one_placed n first x xs all) (placed_from n (first + 1) xs (later_of n first x xs all))
 
-all_of : (n : NodeState) → AreOf n 0 n.neighbours
-all_of n k x is = subst (λ j. is_some (neighbour_of n j) ≡ true) (omega arith) (ap is_some is)
+all_of : (n : NodeState) (d : Upkeep) → AreOf n 0 (parts_of d n)
+all_of n d k x is = subst (λ j. is_some (neighbour_of n j) ≡ true) (omega arith) (ap is_some (parts_from n d k x is).there)
 
-pub all_placed : (n : NodeState) (d : Upkeep) → All (IsPlaced n) (entries_all d 0 n.neighbours)
-all_placed n d = placed_from n d 0 n.neighbours (all_of n)
+pub all_placed : (n : NodeState) (d : Upkeep) → All (IsPlaced n) (entries_all 0 (parts_of d n))
+all_placed n d = placed_from n 0 (parts_of d n) (all_of n d)
 
 -- ---- frames are for neighbours
 
@@ -223,38 +270,45 @@ routed_to n b [] there all = All-nil (IsRouted n)
 routed_to n b (o ∷ os) there all = All-cons (IsRouted n) o os (on_link (record { peer = b; there = there; to_is = all.0.0; link = all.0.1 })) (routed_to n b os there all.1)
 
 -- each neighbour's frames are for it: those of one part of what it sends
-abbrev AreEach : (Neighbour → List Outgoing) → ℕ → List (Option Neighbour) → Type 0
-AreEach part first xs = (k : ℕ) (x : Neighbour) → slice_index_or xs k None ≡ Some x → AreFor (node_word (first + k)) (part x)
+abbrev AreEach : (Done → List Outgoing) → ℕ → List (Option Done) → Type 0
+AreEach part first xs = (k : ℕ) (x : Done) → slice_index_or xs k None ≡ Some x → AreFor (node_word (first + k)) (part x)
 
 -- that part of the frames, where there is a neighbour
-abbrev pub part_of : (Neighbour → List Outgoing) → Option Neighbour → List Outgoing
+abbrev pub part_of : (Done → List Outgoing) → Option Done → List Outgoing
 part_of part None = []
 part_of part (Some x) = part x
 
-one_routed : (n : NodeState) (part : Neighbour → List Outgoing) (first : ℕ) (x : Option Neighbour) (xs : List (Option Neighbour)) → AreOf n first (x ∷ xs) → AreEach part first (x ∷ xs) → All (IsRouted n) (part_of part x)
+one_routed : (n : NodeState) (part : Done → List Outgoing) (first : ℕ) (x : Option Done) (xs : List (Option Done)) → AreOf n first (x ∷ xs) → AreEach part first (x ∷ xs) → All (IsRouted n) (part_of part x)
 one_routed n part first None xs all each = All-nil (IsRouted n)
 one_routed n part first (Some x) xs all each = routed_to n first (part x) (first_of n first x xs all) (subst (λ k. AreFor (node_word k) (part x)) (omega arith) (each 0 x refl))
 
-routed_from : (n : NodeState) (part : Neighbour → List Outgoing) (first : ℕ) (xs : List (Option Neighbour)) → AreOf n first xs → AreEach part first xs → All (IsRouted n) (flat_map (part_of part) xs)
+routed_from : (n : NodeState) (part : Done → List Outgoing) (first : ℕ) (xs : List (Option Done)) → AreOf n first xs → AreEach part first xs → All (IsRouted n) (flat_map (part_of part) xs)
 routed_from n part first [] all each = All-nil (IsRouted n)
 routed_from n part first (x ∷ xs) all each =
     All-append (IsRouted n) (part_of part x) (flat_map (part_of part) xs) (one_routed n part first x xs all each)
     (routed_from n part (first + 1) xs (later_of n first x xs all) (λ k y is. subst (λ j. AreFor (node_word j) (part y)) (omega arith) (each (suc k) y is)))
 
-part_routed : (n : NodeState) (part : Neighbour → List Outgoing) → ((b : ℕ) (x : Neighbour) → neighbour_of n b ≡ Some x → AreFor (node_word b) (part x)) → All (IsRouted n) (flat_map (part_of part) n.neighbours)
-part_routed n part each = routed_from n part 0 n.neighbours (all_of n) (λ k x is. subst (λ j. AreFor (node_word j) (part x)) (omega arith) (each k x is))
+-- what each neighbour sends is for it
+abbrev pub AreForEach : List (Option Done) → Type 0
+AreForEach os = (b : ℕ) (y : Done) → slice_index_or os b None ≡ Some y → AreFor (node_word b) y.states × AreFor (node_word b) y.numbered
 
-pub states_are : (d : Upkeep) (xs : List (Option Neighbour)) → states_all d xs ≡ flat_map (part_of (λ x. (done d x).states)) xs
+part_routed : (n : NodeState) (d : Upkeep) (part : Done → List Outgoing) → ((b : ℕ) (x : Done) → slice_index_or (parts_of d n) b None ≡ Some x → AreFor (node_word b) (part x)) → All (IsRouted n) (flat_map (part_of part) (parts_of d n))
+part_routed n d part each = routed_from n part 0 (parts_of d n) (all_of n d) (λ k x is. subst (λ j. AreFor (node_word j) (part x)) (omega arith) (each k x is))
+
+pub states_are : (xs : List (Option Done)) → states_all xs ≡ flat_map (part_of (λ x. x.states)) xs
 unfolding states_all
-states_are d xs = flat_map_same (states_one d) (part_of (λ x. (done d x).states)) xs (λ o. elim o as (λ (p : Option Neighbour). states_one d p ≡ part_of (λ x. (done d x).states) p) [ None ↦ refl | Some x ↦ refl ])
+states_are xs = flat_map_same states_one (part_of (λ x. x.states)) xs (λ o. elim o as (λ (p : Option Done). states_one p ≡ part_of (λ x. x.states) p) [ None ↦ refl | Some x ↦ refl ])
 
-pub numbered_are : (d : Upkeep) (xs : List (Option Neighbour)) → numbered_all d xs ≡ flat_map (part_of (λ x. (done d x).numbered)) xs
+pub numbered_are : (xs : List (Option Done)) → numbered_all xs ≡ flat_map (part_of (λ x. x.numbered)) xs
 unfolding numbered_all
-numbered_are d xs = flat_map_same (numbered_one d) (part_of (λ x. (done d x).numbered)) xs (λ o. elim o as (λ (p : Option Neighbour). numbered_one d p ≡ part_of (λ x. (done d x).numbered) p) [ None ↦ refl | Some x ↦ refl ])
+numbered_are xs = flat_map_same numbered_one (part_of (λ x. x.numbered)) xs (λ o. elim o as (λ (p : Option Done). numbered_one p ≡ part_of (λ x. x.numbered) p) [ None ↦ refl | Some x ↦ refl ])
 
-pub all_routed : (n : NodeState) (d : Upkeep) → IsOnBearer d → n.boot < 2 ^ 32 → ((b : ℕ) (x : Neighbour) → neighbour_of n b ≡ Some x → AreFor (node_word b) (done d x).states × AreFor (node_word b) (done d x).numbered) → All (IsRouted n) (upkeep_frames d n)
-all_routed n d one low each =
-    All-append (IsRouted n) (states_all d n.neighbours ++ requests_by d n) (numbered_all d n.neighbours)
-    (All-append (IsRouted n) (states_all d n.neighbours) (requests_by d n)
-    (subst (All (IsRouted n)) (sym (states_are d n.neighbours)) (part_routed n (λ x. (done d x).states) (λ b x is. (each b x is).0))) (requests_routed d n one low))
-    (subst (All (IsRouted n)) (sym (numbered_are d n.neighbours)) (part_routed n (λ x. (done d x).numbered) (λ b x is. (each b x is).1)))
+-- nothing was broadcast yet, so that nothing leaves by the broadcast link
+pub all_routed : (n : NodeState) (d : Upkeep) → IsOnBearer d → n.boot < 2 ^ 32 → deeds_frames (upkeep_deeds d n) n.casting ≡ [] → AreForEach (parts_of d n) → All (IsRouted n) (upkeep_frames d n)
+all_routed n d one low none each =
+    let os = parts_of d n in
+    All-append (IsRouted n) (states_all os ++ requests_by d n) (numbered_all os ++ deeds_frames (upkeep_deeds d n) n.casting)
+    (All-append (IsRouted n) (states_all os) (requests_by d n)
+    (subst (All (IsRouted n)) (sym (states_are os)) (part_routed n d (λ x. x.states) (λ b x is. (each b x is).0))) (requests_routed d n one low))
+    (subst (All (IsRouted n)) (sym (append-nil (numbered_all os)) ∙ ap (λ fs. numbered_all os ++ fs) (sym none))
+    (subst (All (IsRouted n)) (sym (numbered_are os)) (part_routed n d (λ x. x.numbered) (λ b x is. (each b x is).1))))

@@ -1,5 +1,6 @@
 -- Each call is a turn of the node.
-use Rattle.std.proofs.Common.{◌≡◌, ◌<◌, ◌^◌, ℕ, Bool, List, [], ◌∷◌, ◌++◌, append-nil, Option, Some, None, filter, map, slice_index_or, refl, sym, ap, ◌∙◌}
+use Rattle.std.proofs.Common.{◌≡◌, ◌<◌, ◌^◌, ℕ, Bool, true, List, [], ◌∷◌, ◌++◌, append-nil, Option, Some, None, filter, map, slice_index_or, refl, sym, ap, subst, ◌∙◌}
+use Rattle.std.specs.List.{list_all}
 use Rattle.std.proofs.lemmas.List.Elements.{All-append, All-cons, filter-append}
 use Rattle.tipc_types.specs.Address.{node_word}
 use Rattle.tipc_types.specs.declared.message_forms.Importance.{Importance}
@@ -23,16 +24,23 @@ use Rattle.tipc_node.specs.declared.neighbours.Neighbour.{Neighbour}
 use Rattle.tipc_node.specs.Calls.{CanPerform, Performs, name_plan, plan_of, sender_refusal, tick_plan, upkeep_plan}
 use Rattle.tipc_node.specs.Discovery.{upkeep_frames}
 use Rattle.tipc_node.specs.Messages.{destination_of, limit_of}
-use Rattle.tipc_node.specs.Neighbours.{IsOnBearer, course_of, done}
-use Rattle.tipc_node.specs.Nodes.{NodeState, after_all, after_one, change_entries, upkeep_note, entries_all, entries_one, numbered_one, recorded, states_one, step_of}
+use Rattle.tipc_types.specs.declared.link_words.BroadcastState.{BroadcastState}
+use Rattle.tipc_broadcast.specs.Casting.{Casting, shown}
+use Rattle.tipc_broadcast.specs.Deeds.{AreSmall, after_deeds, deeds_frames, is_contact_of, sends_nothing}
+use Rattle.tipc_broadcast.proofs.Deeds.{deeds_small, deeds_uncast}
+use Rattle.tipc_node.specs.Casting.{bearer_deeds, deeds_told}
+use Rattle.tipc_node.specs.Neighbours.{Done, IsOnBearer, course_of, done}
+use Rattle.tipc_node.specs.Nodes.{NodeState, after_all, after_one, change_entries, deeds_all, deeds_one, upkeep_note, entries_all, entries_one, numbered_one, parts_of, recorded, states_one, step_of, upkeep_deeds}
 use Rattle.tipc_node.specs.Plans.{CarriesOut, Does, DoesUnless, Plan, Dispatch, concluded_by, frames_alone, message_plan, names_plan, on_its_way, tables_plan, to_peers, way_refusal}
 use Rattle.tipc_node.specs.Sockets.{crowd_refusal, first_event, kept_answer, next_number, port_refusal, publication_refusal, timeouts_of, waiting_at, withdrawal_refusal, withdrawn_entries}
-use Rattle.tipc_node.specs.Turns.{AreNamed, IsBrought, IsPlaced, NodeTurn, PeerTurn, frames_to, is_accepted_for, is_change_of, is_delivered_from}
+use Rattle.tipc_node.specs.Turns.{AreCast, AreNamed, IsBrought, IsPlaced, NodeTurn, PeerTurn, frames_to, is_accepted_for, is_change_of, is_delivered_from}
 use Rattle.tipc_pair.specs.Addressed.{Names}
 use Rattle.tipc_node.specs.Works.{Work, begun, concluded, peers_in_contact}
 use Rattle.tipc_pair.proofs.turns.Addressing.{AreFor}
 use Rattle.tipc_node.proofs.pairs.Calm.{upkeep_happens, opening_of}
-use Rattle.tipc_node.proofs.turns.Entries.{all_accept, all_changes, all_deliver, all_inside, all_placed, all_routed, inside_both}
+use Rattle.tipc_node.proofs.turns.Entries.{AreForEach, all_accept, all_changes, all_deeds, all_deliver, all_inside, all_placed, all_routed, all_silent, inside_both}
+use Rattle.tipc_node.proofs.turns.Parts.{has_part, no_part, parts_from}
+use Rattle.tipc_node.proofs.work.Casting.{bearers_apart, bearers_silent, silent_both, told_changes}
 use Rattle.tipc_node.proofs.turns.MessageRuns.{AreQuiet, goes_run, idle_run, none_quiet, quiet_one, quiet_run}
 use Rattle.tipc_node.proofs.turns.Named.{first_frames}
 use Rattle.tipc_node.proofs.journal.PeersTold.{tells_each_run}
@@ -40,7 +48,7 @@ use Rattle.tipc_node.proofs.turns.Plain.{IsPlain, IsPlainIn, crowd_plain, next_u
 use Rattle.tipc_node.proofs.turns.Runs.{IsRun, run_then}
 use Rattle.tipc_node.proofs.pairs.Strangers.{named_there}
 use Rattle.tipc_node.proofs.turns.Shares.{after_at, shares}
-use Rattle.tipc_node.proofs.turns.Turning.{IsTurn, IsUntaken, named_stand, node_turn, opens_turn, run_turn, shows_none, turn_as}
+use Rattle.tipc_node.proofs.turns.Turning.{IsTurn, IsUntaken, named_stand, node_turn, opens_turn, run_turn, shows_link, turn_as}
 
 -- a call was a turn
 abbrev IsCall : NodeState → NodeState → By → EventNote → List Outgoing → Answer → Type 0
@@ -61,11 +69,11 @@ abbrev frames_with : Dispatch → List Outgoing
 frames_with (frames_alone given) = given
 frames_with other = []
 
--- What makes a call a turn, by its plan: its answers are plain, it changes neither bearers nor ticks, and its work is a run.
+-- What makes a call a turn, by its plan: its answers are plain, it changes neither bearers nor ticks nor the broadcast link, and its work is a run.
 record IsRunning (n : NodeState) (p : Plan) : Type 0 where
   pub plain : IsPlainIn p.refusal
   pub untaken : IsUntaken (kept_answer p.answered)
-  pub stays : record n { mended = p.mended; ticks = p.ticks } ≡ n
+  pub stays : record n { mended = p.mended; ticks = p.ticks; casting = p.casting } ≡ n
   pub run : IsRun n (begun n) [] (frames_with p.dispatch) p.work
 
 carried_turn : (n n' : NodeState) (by : By) (call : EventNote) (p : Plan) (frames : List Outgoing) (answered : Answer) → AreNamed n → IsRunning n p → CarriesOut n by call p n' frames answered → IsCall n n' by call frames answered
@@ -140,27 +148,27 @@ name_running n port kind instance importance body (Some p) are = message_running
 
 -- ---- what happens to all neighbours
 
-done_for : (d : Upkeep) (b : ℕ) (x : Neighbour) → Names (node_word b) x.pair → AreFor (node_word b) (done d x).states × AreFor (node_word b) (done d x).numbered
-done_for d b x named = first_frames (node_word b) x.pair (opening_of d x) (quietly (course_of d x)) named (upkeep_happens d x).0
+done_for : (d : Upkeep) (b : ℕ) (shown : BroadcastState) (x : Neighbour) → Names (node_word b) x.pair → AreFor (node_word b) (done d shown x).states × AreFor (node_word b) (done d shown x).numbered
+done_for d b shown x named = first_frames (node_word b) x.pair (opening_of d shown x) (quietly (course_of d shown x)) named (upkeep_happens d shown x).0
 
 -- what a step tells of a neighbour, and which frames are for it
-record IsDone (d : Upkeep) (s : NodeStep) (frames : List Outgoing) (b : ℕ) (x : Neighbour) : Type 0 where
+record IsDone (d : Upkeep) (shown : BroadcastState) (s : NodeStep) (frames : List Outgoing) (b : ℕ) (x : Neighbour) : Type 0 where
   pub event_is : s.event ≡ upkeep_note d
   pub answer_is : s.answer ≡ answer.Done
-  pub frames_are : frames_to b frames ≡ (done d x).states ++ (done d x).numbered
-  pub changes : filter (is_change_of b) s.inside ≡ change_entries b (done d x).changes
+  pub frames_are : frames_to b frames ≡ (done d shown x).states ++ (done d shown x).numbered
+  pub changes : filter (is_change_of b) s.inside ≡ change_entries b (done d shown x).changes
   pub accepted : filter (is_accepted_for b) s.inside ≡ []
   pub delivered : filter (is_delivered_from b) s.inside ≡ []
 
-opened_turn : (own : ℕ) (d : Upkeep) (s : NodeStep) (frames : List Outgoing) (b : ℕ) (x : Neighbour) → IsDone d s frames b x → Suits s.event (opening_of d x) → IsOnOne (opening_of d x) → IsBrought b [] (opening_of d x) → ShowsIn (opening_of d x)
-    → PeerTurn own [] s frames b x.pair (course_of d x).pair
-opened_turn own d s frames b x h suits on_one brought shows = opens_turn own [] s frames b x.pair (opening_of d x) (quietly (course_of d x)) (record {
+opened_turn : (own : ℕ) (d : Upkeep) (shown : BroadcastState) (s : NodeStep) (frames : List Outgoing) (b : ℕ) (x : Neighbour) → IsDone d shown s frames b x → Suits s.event (opening_of d shown x) → IsOnOne (opening_of d shown x)
+    → IsBrought b [] (opening_of d shown x) → ShowsIn (opening_of d shown x) → PeerTurn own [] s frames b x.pair (course_of d shown x).pair
+opened_turn own d shown s frames b x h suits on_one brought shows = opens_turn own [] s frames b x.pair (opening_of d shown x) (quietly (course_of d shown x)) (record {
   suits = suits;
   on_one = on_one;
-  anew = (upkeep_happens d x).2;
+  anew = (upkeep_happens d shown x).2;
   brought = brought;
   shows = shows;
-  happened = (upkeep_happens d x).0;
+  happened = (upkeep_happens d shown x).0;
   frames_are = h.frames_are;
   changes = h.changes;
   accepted = h.accepted;
@@ -168,10 +176,11 @@ opened_turn own d s frames b x h suits on_one brought shows = opens_turn own [] 
   taken = λ answered es er p is taken from link. absurd (let wrong : answer.Done ≡ answer.Arrived answered = sym h.answer_is ∙ is in cc);
 })
 
-done_turn : (own : ℕ) (d : Upkeep) (s : NodeStep) (frames : List Outgoing) (b : ℕ) (x : Neighbour) → IsOnBearer d → IsDone d s frames b x → PeerTurn own [] s frames b x.pair (done d x).after.pair
-done_turn own (upkeep.Mend bearer) s frames b x one h = opened_turn own (upkeep.Mend bearer) s frames b x h h.event_is one tt tt
-done_turn own (upkeep.Cut bearer) s frames b x one h = opened_turn own (upkeep.Cut bearer) s frames b x h h.event_is one tt tt
-done_turn own upkeep.Tick s frames b x one h = opened_turn own upkeep.Tick s frames b x h h.event_is tt tt (shows_none x.in_step)
+done_turn : (own : ℕ) (d : Upkeep) (v : Casting) (s : NodeStep) (frames : List Outgoing) (b : ℕ) (x : Neighbour) → IsOnBearer d → AreSmall v → IsDone d (shown v (node_word b)) s frames b x
+    → PeerTurn own [] s frames b x.pair (done d (shown v (node_word b)) x).after.pair
+done_turn own (upkeep.Mend bearer) v s frames b x one small h = opened_turn own (upkeep.Mend bearer) (shown v (node_word b)) s frames b x h h.event_is one tt tt
+done_turn own (upkeep.Cut bearer) v s frames b x one small h = opened_turn own (upkeep.Cut bearer) (shown v (node_word b)) s frames b x h h.event_is one tt tt
+done_turn own upkeep.Tick v s frames b x one small h = opened_turn own upkeep.Tick (shown v (node_word b)) s frames b x h h.event_is tt tt (shows_link v (node_word b) small)
 
 -- what is told behind quiet entries is what is told before them
 quiet_behind : (test : Entry → Bool) (es ts : List Entry) → filter test ts ≡ [] → filter test (es ++ ts) ≡ filter test es
@@ -181,52 +190,85 @@ quiet_behind test es ts none = filter-append test es ts ∙ ap (λ xs. filter te
 record IsUpkeep (n : NodeState) (d : Upkeep) (p : Plan) : Type 0 where
   pub more : List Entry
   pub quiet : AreQuiet n more []
-  pub same : p.work.neighbours ≡ after_all d n.neighbours
-  pub inside : p.work.inside ≡ entries_all d 0 n.neighbours ++ more
+  pub same : p.work.neighbours ≡ after_all (parts_of d n)
+  pub inside : p.work.inside ≡ entries_all 0 (parts_of d n) ++ more
+  pub casting : p.casting ≡ after_deeds (upkeep_deeds d n) n.casting
   pub answer_is : p.answered ≡ answer.Done
 
-upkeep_turn : (n : NodeState) (by : By) (d : Upkeep) (p : Plan) → AreNamed n → n.boot < 2 ^ 32 → IsOnBearer d → (u : IsUpkeep n d p)
-    → NodeTurn n (concluded_by n by (upkeep_note d) p p.work) [] (step_of by (upkeep_note d) (entries_all d 0 n.neighbours ++ u.more) answer.Done) (upkeep_frames d n)
-upkeep_turn n by d p named low one u = node_turn n (concluded_by n by (upkeep_note d) p p.work) [] s (upkeep_frames d n) (record {
+-- of each part it tells what the broadcast link is told
+told_part : (b : ℕ) (o : Option Done) → deeds_told (entries_one b o) ≡ deeds_one b o
+told_part b None = refl
+told_part b (Some x) = told_changes b x.changes
+
+upkeep_turn : (n : NodeState) (by : By) (d : Upkeep) (p : Plan) → AreNamed n → n.boot < 2 ^ 32 → AreCast n → IsOnBearer d → (u : IsUpkeep n d p)
+    → NodeTurn n (concluded_by n by (upkeep_note d) p p.work) [] (step_of by (upkeep_note d) (entries_all 0 (parts_of d n) ++ u.more) answer.Done) (upkeep_frames d n)
+upkeep_turn n by d p named low cast one u = node_turn n (concluded_by n by (upkeep_note d) p p.work) [] s (upkeep_frames d n) (record {
   own = refl;
   boot = refl;
   journal = (λ i. n.journal ++ step_entries (step_of by (upkeep_note d) (u.inside i) (kept_answer (u.answer_is i))));
-  inside = inside_both es u.more (all_inside d 0 n.neighbours) u.quiet.inside;
-  turns = λ b x there. record {
-    after = (done d x).after;
-    after_is = ap (λ xs. slice_index_or xs b None) u.same ∙ after_at d n.neighbours b ∙ ap (after_one d) there;
-    turn = done_turn n.own d s (upkeep_frames d n) b x one (record {
-      event_is = refl;
-      answer_is = refl;
-      frames_are = shares d n b each ∙ ap (λ o. states_one d o ++ numbered_one d o) there;
-      changes = quiet_behind (is_change_of b) es u.more (u.quiet.changes b) ∙ all_changes d n.neighbours b ∙ ap (entries_one d b) there;
-      accepted = quiet_behind (is_accepted_for b) es u.more (u.quiet.accepted b) ∙ all_accept d b 0 n.neighbours;
-      delivered = quiet_behind (is_delivered_from b) es u.more (u.quiet.delivered b) ∙ all_deliver d b 0 n.neighbours;
-    });
-  };
-  alone = λ b none. ap (λ xs. slice_index_or xs b None) u.same ∙ after_at d n.neighbours b ∙ ap (after_one d) none;
-  untaken = λ b none a es er p is taken from link. (let wrong : answer.Done ≡ answer.Arrived a = is in cc);
-  routed = all_routed n d one low each;
+  inside = inside_both es u.more (all_inside 0 os) u.quiet.inside;
+  deeds = upkeep_deeds d n;
+  casting = u.casting;
+  contacts = λ b.
+      filter-append (is_contact_of (node_word b)) (bearer_deeds d) (deeds_all 0 os)
+      ∙ ap (λ ds. ds ++ filter (is_contact_of (node_word b)) (deeds_all 0 os)) (bearers_apart b d) ∙ all_deeds os b
+      ∙ sym (told_part b (slice_index_or os b None)) ∙ ap deeds_told (sym (changed b));
+  silent = silent;
+  turns = λ b x there.
+      (let part = has_part n d b x there in
+      let done_so = done d (shown part.link (node_word b)) x in
+      record {
+        after = done_so.after;
+        after_is = ap (λ xs. slice_index_or xs b None) u.same ∙ after_at os b ∙ ap after_one part.there;
+        turn = done_turn n.own d part.link s (upkeep_frames d n) b x one (subst AreSmall (sym part.link_is) (deeds_small part.deeds n.casting cast.small)) (record {
+          event_is = refl;
+          answer_is = refl;
+          frames_are = shares d n b none each ∙ ap (λ o. states_one o ++ numbered_one o) part.there;
+          changes = changed b ∙ ap (entries_one b) part.there;
+          accepted = quiet_behind (is_accepted_for b) es u.more (u.quiet.accepted b) ∙ all_accept b 0 os;
+          delivered = quiet_behind (is_delivered_from b) es u.more (u.quiet.delivered b) ∙ all_deliver b 0 os;
+        });
+      });
+  alone = λ b gone. ap (λ xs. slice_index_or xs b None) u.same ∙ after_at os b ∙ ap after_one (no_part n d b gone);
+  untaken = λ b gone a es er p is taken from link. (let wrong : answer.Done ≡ answer.Arrived a = is in cc);
+  routed = all_routed n d one low none each;
   placed = All-append (IsPlaced n) es u.more (all_placed n d) u.quiet.placed;
 })
   where
+    os : List (Option Done)
+    os = parts_of d n
+
     es : List Entry
-    es = entries_all d 0 n.neighbours
+    es = entries_all 0 os
 
     s : NodeStep
     s = step_of by (upkeep_note d) (es ++ u.more) answer.Done
 
-    each : (b : ℕ) (x : Neighbour) → slice_index_or n.neighbours b None ≡ Some x → AreFor (node_word b) (done d x).states × AreFor (node_word b) (done d x).numbered
-    each b x there = done_for d b x (named_there n b x named there)
+    silent : list_all sends_nothing (upkeep_deeds d n) ≡ true
+    silent = silent_both (bearer_deeds d) (deeds_all 0 os) (bearers_silent d) (all_silent 0 os)
 
-upkeeps : (n n' : NodeState) (by : By) (d : Upkeep) (p : Plan) (frames : List Outgoing) (answered : Answer) → AreNamed n → n.boot < 2 ^ 32 → IsOnBearer d → IsUpkeep n d p
+    -- nothing was broadcast yet
+    none : deeds_frames (upkeep_deeds d n) n.casting ≡ []
+    none = (deeds_uncast (upkeep_deeds d n) n.casting silent cast.uncast).1
+
+    changed : (b : ℕ) → filter (is_change_of b) (es ++ u.more) ≡ entries_one b (slice_index_or os b None)
+    changed b = quiet_behind (is_change_of b) es u.more (u.quiet.changes b) ∙ all_changes os b
+
+    each : AreForEach os
+    each b y there =
+        let part = parts_from n d b y there in
+        subst (λ (z : Done). AreFor (node_word b) z.states × AreFor (node_word b) z.numbered) (sym part.is)
+        (done_for d b (shown part.link (node_word b)) part.neighbour (named_there n b part.neighbour named part.there))
+
+upkeeps : (n n' : NodeState) (by : By) (d : Upkeep) (p : Plan) (frames : List Outgoing) (answered : Answer) → AreNamed n → n.boot < 2 ^ 32 → AreCast n → IsOnBearer d → IsUpkeep n d p
     → Does (frames_alone (upkeep_frames d n)) n by (upkeep_note d) p n' frames answered → IsCall n n' by (upkeep_note d) frames answered
-upkeeps n n' by d p frames answered named low one u h =
-    turn_as n n' (concluded_by n by (upkeep_note d) p p.work) by (upkeep_note d) [] frames (upkeep_frames d n) (kept_answer answered) answer.Done h.0 h.1 (ap kept_answer (h.2 ∙ u.answer_is)) (entries_all d 0 n.neighbours ++ u.more, upkeep_turn n by d p named low one u)
+upkeeps n n' by d p frames answered named low cast one u h =
+    turn_as n n' (concluded_by n by (upkeep_note d) p p.work) by (upkeep_note d) [] frames (upkeep_frames d n) (kept_answer answered) answer.Done h.0 h.1 (ap kept_answer (h.2 ∙ u.answer_is))
+    (entries_all 0 (parts_of d n) ++ u.more, upkeep_turn n by d p named low cast one u)
 
 -- of a bearer
 bearer_upkeep : (n : NodeState) (d : Upkeep) → IsUpkeep n d (upkeep_plan n d)
-bearer_upkeep n d = record { more = []; quiet = none_quiet n; same = refl; inside = sym (append-nil (entries_all d 0 n.neighbours)); answer_is = refl }
+bearer_upkeep n d = record { more = []; quiet = none_quiet n; same = refl; inside = sym (append-nil (entries_all 0 (parts_of d n))); casting = refl; answer_is = refl }
 
 -- of the clock
 timed_quiet : (n : NodeState) (numbers : List ℕ) → AreQuiet n (map TimedOut numbers) []
@@ -241,7 +283,7 @@ timed_quiet n (number ∷ numbers) =
     }
 
 clock_upkeep : (n : NodeState) → IsUpkeep n upkeep.Tick (tick_plan n)
-clock_upkeep n = record { more = timeouts_of n.sockets; quiet = timed_quiet n (due n.sockets.watchers.kept); same = refl; inside = refl; answer_is = refl }
+clock_upkeep n = record { more = timeouts_of n.sockets; quiet = timed_quiet n (due n.sockets.watchers.kept); same = refl; inside = refl; casting = refl; answer_is = refl }
 
 -- ---- every call
 
@@ -249,35 +291,35 @@ clock_upkeep n = record { more = timeouts_of n.sockets; quiet = timed_quiet n (d
 run_call : (n n' : NodeState) (by : By) (call : EventNote) (frames : List Outgoing) (answered : Answer) → AreNamed n → (h : Performs n by call n' frames answered) → IsRunning n (plan_of n call h.chosen) → IsCall n n' by call frames answered
 run_call n n' by call frames answered are h running = carried_turn n n' by call (plan_of n call h.chosen) frames answered are running h.carried
 
-pub performs_turn : (n n' : NodeState) (by : By) (call : EventNote) (frames : List Outgoing) (answered : Answer) → AreNamed n → n.boot < 2 ^ 32 → CanPerform call → Performs n by call n' frames answered
+pub performs_turn : (n n' : NodeState) (by : By) (call : EventNote) (frames : List Outgoing) (answered : Answer) → AreNamed n → n.boot < 2 ^ 32 → AreCast n → CanPerform call → Performs n by call n' frames answered
     → (inside : List Entry) × NodeTurn n n' [] (step_of by call inside (kept_answer answered)) frames
-performs_turn n n' by event.Socket frames answered are low can h = run_call n n' by event.Socket frames answered are h (tables_running n [] are (socket_plain n.sockets) tt refl refl (none_quiet n))
-performs_turn n n' by (event.Close port) frames answered are low can h =
+performs_turn n n' by event.Socket frames answered are low cast can h = run_call n n' by event.Socket frames answered are h (tables_running n [] are (socket_plain n.sockets) tt refl refl (none_quiet n))
+performs_turn n n' by (event.Close port) frames answered are low cast can h =
     let ps = filter (is_at port) n.sockets.live in
     run_call n n' by (event.Close port) frames answered are h (names_running n (port_refusal n.sockets port) (map Withdrawn ps) are (port_plain n.sockets port) refl refl (all_withdrawn n ps))
-performs_turn n n' by (event.Publish port range scope key) frames answered are low can h =
+performs_turn n n' by (event.Publish port range scope key) frames answered are low cast can h =
     let p = own_publication n.own port range scope key in
     let quiet = quiet_one n (Published p) (λ b. refl) (λ b. refl) (λ b. refl) refl tt in
     run_call n n' by (event.Publish port range scope key) frames answered are h (names_running n (publication_refusal n.sockets port range.kind key) (Published p ∷ []) are (publication_plain n.sockets port range.kind key) refl refl quiet)
-performs_turn n n' by (event.Withdraw port key) frames answered are low can h =
+performs_turn n n' by (event.Withdraw port key) frames answered are low cast can h =
     let o = published_at n.sockets port key in
     run_call n n' by (event.Withdraw port key) frames answered are h (names_running n (withdrawal_refusal n.sockets port key) (withdrawn_entries o) are (withdrawal_plain n.sockets port key) refl refl (withdrawn_quiet n o))
-performs_turn n n' by (event.SendName port kind instance importance body) frames answered are low can h =
+performs_turn n n' by (event.SendName port kind instance importance body) frames answered are low cast can h =
     run_call n n' by (event.SendName port kind instance importance body) frames answered are h (name_running n port kind instance importance body h.chosen are)
-performs_turn n n' by (event.SendPort port to importance body) frames answered are low can h =
+performs_turn n n' by (event.SendPort port to importance body) frames answered are low cast can h =
     run_call n n' by (event.SendPort port to importance body) frames answered are h (message_running n (sender_refusal n port body) (limit_of importance) are (sender_plain n port body) tt)
-performs_turn n n' by (event.Receive port) frames answered are low can h =
+performs_turn n n' by (event.Receive port) frames answered are low cast can h =
     run_call n n' by (event.Receive port) frames answered are h (tables_running n [] are (port_plain n.sockets port) (received_untaken (waiting_at n.sockets port)) refl refl (none_quiet n))
-performs_turn n n' by (event.Subscribe asked) frames answered are low can h =
+performs_turn n n' by (event.Subscribe asked) frames answered are low cast can h =
     let e = Subscribed (next_number n.sockets) asked in
     run_call n n' by (event.Subscribe asked) frames answered are h (tables_running n (e ∷ []) are (subscription_plain n.sockets asked) tt refl refl (quiet_one n e (λ b. refl) (λ b. refl) (λ b. refl) refl tt))
-performs_turn n n' by (event.Cancel number) frames answered are low can h =
+performs_turn n n' by (event.Cancel number) frames answered are low cast can h =
     let e = Cancelled number in
     run_call n n' by (event.Cancel number) frames answered are h (tables_running n (e ∷ []) are (number_plain n.sockets number) tt refl refl (quiet_one n e (λ b. refl) (λ b. refl) (λ b. refl) refl tt))
-performs_turn n n' by (event.NextEvent number) frames answered are low can h =
+performs_turn n n' by (event.NextEvent number) frames answered are low cast can h =
     run_call n n' by (event.NextEvent number) frames answered are h (tables_running n [] are (number_plain n.sockets number) (next_untaken (first_event n.sockets number)) refl refl (none_quiet n))
-performs_turn n n' by event.Tick frames answered are low can h = upkeeps n n' by upkeep.Tick (tick_plan n) frames answered are low tt (clock_upkeep n) h.carried
-performs_turn n n' by (event.Cut bearer) frames answered are low can h = upkeeps n n' by (upkeep.Cut bearer) (upkeep_plan n (upkeep.Cut bearer)) frames answered are low can (bearer_upkeep n (upkeep.Cut bearer)) h.carried
-performs_turn n n' by (event.Mend bearer) frames answered are low can h = upkeeps n n' by (upkeep.Mend bearer) (upkeep_plan n (upkeep.Mend bearer)) frames answered are low can (bearer_upkeep n (upkeep.Mend bearer)) h.carried
-performs_turn n n' by (event.Multicast port kind lower upper importance body) frames answered are low can h = absurd h.choice
-performs_turn n n' by (event.Arrive bearer number) frames answered are low can h = absurd h.choice
+performs_turn n n' by event.Tick frames answered are low cast can h = upkeeps n n' by upkeep.Tick (tick_plan n) frames answered are low cast tt (clock_upkeep n) h.carried
+performs_turn n n' by (event.Cut bearer) frames answered are low cast can h = upkeeps n n' by (upkeep.Cut bearer) (upkeep_plan n (upkeep.Cut bearer)) frames answered are low cast can (bearer_upkeep n (upkeep.Cut bearer)) h.carried
+performs_turn n n' by (event.Mend bearer) frames answered are low cast can h = upkeeps n n' by (upkeep.Mend bearer) (upkeep_plan n (upkeep.Mend bearer)) frames answered are low cast can (bearer_upkeep n (upkeep.Mend bearer)) h.carried
+performs_turn n n' by (event.Multicast port kind lower upper importance body) frames answered are low cast can h = absurd h.choice
+performs_turn n n' by (event.Arrive bearer number) frames answered are low cast can h = absurd h.choice

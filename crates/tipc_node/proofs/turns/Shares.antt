@@ -9,13 +9,13 @@ use Rattle.tipc_types.specs.declared.identity.To.TheVariants as to
 use Rattle.tipc_outside.specs.declared.outgoing.Outgoing.{Outgoing}
 use Rattle.tipc_header.specs.Frames.{is_of_link}
 use Rattle.tipc_node.specs.declared.neighbours.Upkeep.{Upkeep}
-use Rattle.tipc_node.specs.declared.neighbours.Neighbour.{Neighbour}
-use Rattle.tipc_node.specs.Neighbours.{done}
+use Rattle.tipc_broadcast.specs.Deeds.{deeds_frames}
+use Rattle.tipc_node.specs.Neighbours.{Done}
 use Rattle.tipc_node.specs.Discovery.{requests_by, upkeep_frames}
-use Rattle.tipc_node.specs.Nodes.{NodeState, after_all, after_one, neighbour_of, numbered_all, numbered_one, states_all, states_one}
+use Rattle.tipc_node.specs.Nodes.{NodeState, after_all, after_one, numbered_all, numbered_one, parts_of, states_all, states_one, upkeep_deeds}
 use Rattle.tipc_node.specs.Turns.{frames_to, is_out_to, is_to}
 use Rattle.tipc_pair.proofs.turns.Addressing.{AreFor, IsFor}
-use Rattle.tipc_node.proofs.turns.Entries.{numbered_are, part_of, states_are}
+use Rattle.tipc_node.proofs.turns.Entries.{AreForEach, numbered_are, part_of, states_are}
 use Rattle.tipc_node.proofs.turns.Discovery.{requests_to}
 
 -- ---- frames that are all for one node
@@ -43,24 +43,24 @@ frames_to-other b c (o ∷ os) apart all = rw (for_another b c o apart all.0) (f
 -- ---- the frames of all neighbours
 
 -- each neighbour's frames are for it, those of one part of what it sends; the first of them has that number
-abbrev AreShares : (Neighbour → List Outgoing) → ℕ → List (Option Neighbour) → Type 0
-AreShares part first xs = (k : ℕ) (x : Neighbour) → slice_index_or xs k None ≡ Some x → AreFor (node_word (first + k)) (part x)
+abbrev AreShares : (Done → List Outgoing) → ℕ → List (Option Done) → Type 0
+AreShares part first xs = (k : ℕ) (x : Done) → slice_index_or xs k None ≡ Some x → AreFor (node_word (first + k)) (part x)
 
-one_for : (part : Neighbour → List Outgoing) (first : ℕ) (x : Option Neighbour) (xs : List (Option Neighbour)) → AreShares part first (x ∷ xs) → AreFor (node_word first) (part_of part x)
+one_for : (part : Done → List Outgoing) (first : ℕ) (x : Option Done) (xs : List (Option Done)) → AreShares part first (x ∷ xs) → AreFor (node_word first) (part_of part x)
 one_for part first None xs all = tt
 one_for part first (Some x) xs all = subst (λ k. AreFor (node_word k) (part x)) (omega arith) (all 0 x refl)
 
-later_shares : (part : Neighbour → List Outgoing) (first : ℕ) (x : Option Neighbour) (xs : List (Option Neighbour)) → AreShares part first (x ∷ xs) → AreShares part (first + 1) xs
+later_shares : (part : Done → List Outgoing) (first : ℕ) (x : Option Done) (xs : List (Option Done)) → AreShares part first (x ∷ xs) → AreShares part (first + 1) xs
 later_shares part first x xs all k y is = subst (λ j. AreFor (node_word j) (part y)) (omega arith) (all (suc k) y is)
 
-none_to : (part : Neighbour → List Outgoing) (first : ℕ) (xs : List (Option Neighbour)) (b : ℕ) → b < first → AreShares part first xs → frames_to b (flat_map (part_of part) xs) ≡ []
+none_to : (part : Done → List Outgoing) (first : ℕ) (xs : List (Option Done)) (b : ℕ) → b < first → AreShares part first xs → frames_to b (flat_map (part_of part) xs) ≡ []
 none_to part first [] b below all = refl
 none_to part first (x ∷ xs) b below all =
     filter-append (is_out_to b) (part_of part x) (flat_map (part_of part) xs)
     ∙ ap (λ zs. zs ++ frames_to b (flat_map (part_of part) xs)) (frames_to-other b first (part_of part x) (λ e. omega arith) (one_for part first x xs all))
     ∙ none_to part (first + 1) xs b (omega arith) (later_shares part first x xs all)
 
-one_to : (part : Neighbour → List Outgoing) (first : ℕ) (xs : List (Option Neighbour)) (k : ℕ) → AreShares part first xs → frames_to (first + k) (flat_map (part_of part) xs) ≡ part_of part (slice_index_or xs k None)
+one_to : (part : Done → List Outgoing) (first : ℕ) (xs : List (Option Done)) (k : ℕ) → AreShares part first xs → frames_to (first + k) (flat_map (part_of part) xs) ≡ part_of part (slice_index_or xs k None)
 one_to part first [] k all = refl
 one_to part first (x ∷ xs) zero all =
     filter-append (is_out_to (first + 0)) (part_of part x) (flat_map (part_of part) xs)
@@ -71,35 +71,38 @@ one_to part first (x ∷ xs) (suc k) all =
     ∙ ap (λ zs. zs ++ frames_to (first + suc k) (flat_map (part_of part) xs)) (frames_to-other (first + suc k) first (part_of part x) (λ e. omega arith) (one_for part first x xs all))
     ∙ ap (λ j. frames_to j (flat_map (part_of part) xs)) (omega arith) ∙ one_to part (first + 1) xs k (later_shares part first x xs all)
 
-part_shares : (part : Neighbour → List Outgoing) (xs : List (Option Neighbour)) (b : ℕ) → ((k : ℕ) (x : Neighbour) → slice_index_or xs k None ≡ Some x → AreFor (node_word k) (part x)) → frames_to b (flat_map (part_of part) xs) ≡ part_of part (slice_index_or xs b None)
+part_shares : (part : Done → List Outgoing) (xs : List (Option Done)) (b : ℕ) → ((k : ℕ) (x : Done) → slice_index_or xs k None ≡ Some x → AreFor (node_word k) (part x)) → frames_to b (flat_map (part_of part) xs) ≡ part_of part (slice_index_or xs b None)
 part_shares part xs b all = ap (λ j. frames_to j (flat_map (part_of part) xs)) (omega arith) ∙ one_to part 0 xs b (λ k x is. subst (λ j. AreFor (node_word j) (part x)) (omega arith) (all k x is))
 
-part_states : (d : Upkeep) (o : Option Neighbour) → part_of (λ x. (done d x).states) o ≡ states_one d o
-part_states d None = refl
-part_states d (Some x) = refl
+part_states : (o : Option Done) → part_of (λ x. x.states) o ≡ states_one o
+part_states None = refl
+part_states (Some x) = refl
 
-part_numbered : (d : Upkeep) (o : Option Neighbour) → part_of (λ x. (done d x).numbered) o ≡ numbered_one d o
-part_numbered d None = refl
-part_numbered d (Some x) = refl
+part_numbered : (o : Option Done) → part_of (λ x. x.numbered) o ≡ numbered_one o
+part_numbered None = refl
+part_numbered (Some x) = refl
 
-pub shares : (d : Upkeep) (n : NodeState) (b : ℕ)
-    → ((k : ℕ) (x : Neighbour) → neighbour_of n k ≡ Some x → AreFor (node_word k) (done d x).states × AreFor (node_word k) (done d x).numbered)
-    → frames_to b (upkeep_frames d n) ≡ states_one d (neighbour_of n b) ++ numbered_one d (neighbour_of n b)
-shares d n b all =
-    let xs = n.neighbours in
-    let one = ap (frames_to b) (states_are d xs) ∙ part_shares (λ x. (done d x).states) xs b (λ k x is. (all k x is).0) ∙ part_states d (neighbour_of n b) in
-    let two = ap (frames_to b) (numbered_are d xs) ∙ part_shares (λ x. (done d x).numbered) xs b (λ k x is. (all k x is).1) ∙ part_numbered d (neighbour_of n b) in
-    let first : frames_to b (states_all d xs ++ requests_by d n) ≡ states_one d (neighbour_of n b) =
-    filter-append (is_out_to b) (states_all d xs) (requests_by d n) ∙ ap (λ zs. zs ++ frames_to b (requests_by d n)) one ∙ ap (λ zs. states_one d (neighbour_of n b) ++ zs) (requests_to d n b) ∙ append-nil (states_one d (neighbour_of n b)) in
-    filter-append (is_out_to b) (states_all d xs ++ requests_by d n) (numbered_all d xs) ∙ ap (λ zs. zs ++ frames_to b (numbered_all d xs)) first ∙ ap (λ zs. states_one d (neighbour_of n b) ++ zs) two
+-- those of broadcast packets are none
+pub shares : (d : Upkeep) (n : NodeState) (b : ℕ) → deeds_frames (upkeep_deeds d n) n.casting ≡ [] → AreForEach (parts_of d n)
+    → frames_to b (upkeep_frames d n) ≡ states_one (slice_index_or (parts_of d n) b None) ++ numbered_one (slice_index_or (parts_of d n) b None)
+shares d n b none all =
+    let os = parts_of d n in
+    let part = slice_index_or os b None in
+    let casts = deeds_frames (upkeep_deeds d n) n.casting in
+    let one = ap (frames_to b) (states_are os) ∙ part_shares (λ x. x.states) os b (λ k x is. (all k x is).0) ∙ part_states part in
+    let two = ap (frames_to b) (numbered_are os) ∙ part_shares (λ x. x.numbered) os b (λ k x is. (all k x is).1) ∙ part_numbered part in
+    let first : frames_to b (states_all os ++ requests_by d n) ≡ states_one part =
+    filter-append (is_out_to b) (states_all os) (requests_by d n) ∙ ap (λ zs. zs ++ frames_to b (requests_by d n)) one ∙ ap (λ zs. states_one part ++ zs) (requests_to d n b) ∙ append-nil (states_one part) in
+    let behind : frames_to b (numbered_all os ++ casts) ≡ numbered_one part = ap (λ fs. frames_to b (numbered_all os ++ fs)) none ∙ ap (frames_to b) (append-nil (numbered_all os)) ∙ two in
+    filter-append (is_out_to b) (states_all os ++ requests_by d n) (numbered_all os ++ casts) ∙ ap (λ zs. zs ++ frames_to b (numbered_all os ++ casts)) first ∙ ap (λ zs. states_one part ++ zs) behind
 
 -- ---- the neighbours after a upkeep
 
-pub mapped_at : (d : Upkeep) (xs : List (Option Neighbour)) (b : ℕ) → slice_index_or (map (after_one d) xs) b None ≡ after_one d (slice_index_or xs b None)
-mapped_at d [] b = refl
-mapped_at d (x ∷ xs) zero = refl
-mapped_at d (x ∷ xs) (suc b) = mapped_at d xs b
+pub mapped_at : (os : List (Option Done)) (b : ℕ) → slice_index_or (map after_one os) b None ≡ after_one (slice_index_or os b None)
+mapped_at [] b = refl
+mapped_at (o ∷ os) zero = refl
+mapped_at (o ∷ os) (suc b) = mapped_at os b
 
-pub after_at : (d : Upkeep) (xs : List (Option Neighbour)) (b : ℕ) → slice_index_or (after_all d xs) b None ≡ after_one d (slice_index_or xs b None)
+pub after_at : (os : List (Option Done)) (b : ℕ) → slice_index_or (after_all os) b None ≡ after_one (slice_index_or os b None)
 unfolding after_all
-after_at d xs b = mapped_at d xs b
+after_at os b = mapped_at os b

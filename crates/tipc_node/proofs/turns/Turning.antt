@@ -1,6 +1,7 @@
 -- How a turn of a node is put together from what happened first at each pair and from a run of work.
-use Rattle.std.proofs.Common.{◌≡◌, ◌==◌, ◌&&◌, ℕ, Bool, true, false, List, [], ◌++◌, Option, Some, None, filter, is_some, inl, inr, refl, sym, ap, ◌∙◌, subst, append-nil, arith}
-use Rattle.std.specs.List.{All}
+use Rattle.std.proofs.Common.{◌≡◌, ◌==◌, ◌&&◌, ℕ, true, false, List, [], ◌++◌, Option, Some, None, filter, is_some, inl, inr, refl, sym, ap, ◌∙◌, subst, append-nil, arith}
+use Rattle.std.specs.Prelude.{IfSome, length, ◌+◌, ◌<◌, ◌≤◌, ◌^◌}
+use Rattle.std.specs.List.{All, list_all}
 use Rattle.std.proofs.lemmas.List.Elements.{All-nil, All-weaker}
 use Rattle.tipc_types.specs.Address.{node_word}
 use Rattle.tipc_types.specs.declared.identity.Addr.{Addr}
@@ -27,7 +28,16 @@ use Rattle.tipc_pair.specs.PairTurns.PutsAll.{none_put}
 use Rattle.tipc_node.specs.declared.neighbours.Neighbour.{Neighbour}
 use Rattle.tipc_node.specs.Discovery.{discovery_frame}
 use Rattle.tipc_node.specs.Messages.{IsSendable}
-use Rattle.tipc_node.specs.Neighbours.{no_broadcast, stranger}
+use Rattle.tipc_types.specs.Position.{number_of}
+use Rattle.tipc_types.proofs.PositionLaws.{number_of-below}
+use Rattle.tipc_recv_window.specs.Receiving.{Receiving}
+use Rattle.tipc_broadcast.specs.declared.contacts.Contact.{Contact}
+use Rattle.tipc_broadcast.specs.Casting.{Casting, next_start, shown}
+use Rattle.tipc_broadcast.specs.Contacts.{contact_with, shown_in, shown_to}
+use Rattle.tipc_broadcast.specs.Deeds.{AreSmall, CastDeed, HasSmallWindow, after_deeds, is_contact_of, sends_nothing}
+use Rattle.tipc_broadcast.proofs.Deeds.{gap_small, small_with}
+use Rattle.tipc_node.specs.Casting.{deeds_told}
+use Rattle.tipc_node.specs.Neighbours.{stranger}
 use Rattle.tipc_node.specs.Nodes.{NodeState, acquaintance, change_entries, is_other, neighbour_of, pair_with, step_of}
 use Rattle.tipc_node.specs.Turns.IsRouted.{of_discovery, on_link}
 use Rattle.tipc_node.specs.Turns.{AreNamed, IsBrought, IsFrom, IsOfNeighbour, IsPlaced, IsRouted, IsTakenIn, NodeTurn, PeerTurn, frames_to, given_entries, is_accepted_for, is_change_of, is_delivered_from, is_out_to, is_to}
@@ -38,9 +48,20 @@ use Rattle.tipc_node.proofs.turns.Discovery.{never_to}
 use Rattle.tipc_node.proofs.Filters.{filter-none}
 use Rattle.tipc_node.proofs.pairs.Strangers.{named_there, pair_alone, pair_there}
 
--- what a node shows of broadcast fits its places
-pub shows_none : (in_step : Bool) → IsShowable (no_broadcast in_step)
-shows_none in_step = record { acknowledged = omega arith; next = omega arith; start = omega arith; gap = omega arith }
+below : (k : ℕ) → number_of k < 2 ^ 16
+below k = number_of-below k
+
+-- what a node shows of its broadcast link fits its places
+pub shows_link : (v : Casting) (peer : ℕ) → AreSmall v → IsShowable (shown v peer)
+shows_link v peer small = by (contact_with peer v.contacts) (small_with peer v.contacts small)
+  where
+    by_window : (next start said : ℕ) (o : Option Receiving) → next < 2 ^ 16 → start < 2 ^ 16 → IfSome o (λ r. length r.held ≤ 50) → IsShowable (shown_in next start said o)
+    by_window next start said None high low few = record { acknowledged = omega arith; next = high; start = low; gap = omega arith }
+    by_window next start said (Some r) high low few = record { acknowledged = below (r.wanted + 65535); next = high; start = low; gap = gap_small r said few }
+
+    by : (o : Option Contact) → IfSome o HasSmallWindow → IsShowable (shown_to (number_of (v.sending.numbered + 1)) (number_of (next_start v)) o)
+    by None few = record { acknowledged = omega arith; next = below (v.sending.numbered + 1); start = below (next_start v); gap = omega arith }
+    by (Some c) few = by_window (number_of (v.sending.numbered + 1)) (number_of c.start) c.shown c.window (below (v.sending.numbered + 1)) (below c.start) few
 
 -- an answer that doesn't tell of a packet that a link's session took
 abbrev pub IsUntaken : Answer → Type 0
@@ -137,7 +158,7 @@ other_word n b word none c there is = ap (λ w. w == node_word b) is ∙ apart_w
 pub of_other : (n : NodeState) (b : ℕ) (peer : Addr) → neighbour_of n b ≡ None → IsOfNeighbour n peer → (peer.word == node_word b) ≡ false
 of_other n b peer none of = other_word n b peer.word none of.0 of.1 (ap (λ (a : Addr). a.word) of.2)
 
-never_changed : (n : NodeState) (b : ℕ) → neighbour_of n b ≡ None → (e : Entry) → IsPlaced n e → is_change_of b e ≡ false
+pub never_changed : (n : NodeState) (b : ℕ) → neighbour_of n b ≡ None → (e : Entry) → IsPlaced n e → is_change_of b e ≡ false
 never_changed n b none (entry.LinkUp peer bearer own theirs) of = of_other n b peer none of
 never_changed n b none (entry.LinkDown peer bearer cause shown) of = of_other n b peer none of
 never_changed n b none (entry.ContactUp peer numbers) of = of_other n b peer none of
@@ -182,6 +203,10 @@ pub record TurnsTaken (n n' : NodeState) (bytes : List ℕ) (s : NodeStep) (fram
   pub boot : n'.boot ≡ n.boot
   pub journal : n'.journal ≡ n.journal ++ step_entries s
   pub inside : IsInside s.inside
+  pub deeds : List CastDeed
+  pub casting : n'.casting ≡ after_deeds deeds n.casting
+  pub contacts : (b : ℕ) → filter (is_contact_of (node_word b)) deeds ≡ deeds_told (filter (is_change_of b) s.inside)
+  pub silent : list_all sends_nothing deeds ≡ true
   pub turns : (b : ℕ) (x : Neighbour) → neighbour_of n b ≡ Some x → NeighbourTurn n n' bytes s frames b x
   pub alone : (b : ℕ) → neighbour_of n b ≡ None → neighbour_of n' b ≡ None
   pub untaken : (b : ℕ) → neighbour_of n b ≡ None → (answered : Arrival) (es er : ℕ) (p : Fields) → s.answer ≡ answer.Arrived answered → IsTakenIn answered → IsFrom b bytes es er p → kind_in bytes ≡ Links → ⊥
@@ -208,6 +233,10 @@ node_turn n n' bytes s frames h = record {
   boot = h.boot;
   journal = h.journal;
   inside = h.inside;
+  deeds = h.deeds;
+  casting = h.casting;
+  contacts = h.contacts;
+  silent = h.silent;
   turns = λ b. by b (neighbour_of n b) refl;
   lasts = λ b. lasts b (neighbour_of n b) refl;
   stays = λ b none. inl (h.alone b none);
@@ -239,6 +268,10 @@ runs_turn n by note bytes kept w es frames untaken h = node_turn n (concluded n 
   boot = refl;
   journal = refl;
   inside = subst IsInside (sym h.inside_is) h.inside;
+  deeds = [];
+  casting = refl;
+  contacts = λ b. ap deeds_told (sym (unchanged b (neighbour_of n b) refl));
+  silent = refl;
   turns = λ b x there. (let at = h.at b x there in record {
     after = at.now;
     after_is = at.now_is;
@@ -253,8 +286,15 @@ runs_turn n by note bytes kept w es frames untaken h = node_turn n (concluded n 
   alone = h.alone;
   untaken = λ b none answered es er p is taken from link. not_taken kept answered untaken is taken;
   routed = h.routed;
-  placed = subst (All (IsPlaced n)) (sym h.inside_is) h.placed;
+  placed = placed;
 })
+  where
+    placed : All (IsPlaced n) w.inside
+    placed = subst (All (IsPlaced n)) (sym h.inside_is) h.placed
+
+    unchanged : (b : ℕ) (o : Option Neighbour) → neighbour_of n b ≡ o → filter (is_change_of b) w.inside ≡ []
+    unchanged b None none = filter-none (is_change_of b) w.inside (IsPlaced n) (never_changed n b none) placed
+    unchanged b (Some x) there = ap (filter (is_change_of b)) h.inside_is ∙ (h.at b x there).run.changes
 
 -- a step of a node was a turn of it in which such entries were recorded
 abbrev pub IsTurn : NodeState → NodeState → By → EventNote → List ℕ → List Outgoing → Answer → Type 0

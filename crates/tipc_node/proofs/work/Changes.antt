@@ -9,9 +9,7 @@ use Rattle.tipc_pair.specs.declared.transitions.Transition.{Transition}
 use Rattle.tipc_pair.specs.declared.transitions.Transition.TheVariants.{ContactDown, ContactUp, LinkDown, LinkUp}
 use Rattle.tipc_sockets.specs.SocketTables.{SocketTable}
 use Rattle.tipc_sockets.specs.Telling.{after_entry}
-use Rattle.tipc_node.specs.declared.neighbours.Neighbour.{Neighbour}
-use Rattle.tipc_node.specs.declared.neighbours.Upkeep.{Upkeep}
-use Rattle.tipc_node.specs.Neighbours.{done}
+use Rattle.tipc_node.specs.Neighbours.{Done}
 use Rattle.tipc_node.specs.Nodes.{change_entries, change_entry, entries_all, entries_one, is_change}
 
 -- each of them is a change
@@ -25,17 +23,17 @@ pub change_changes : (peer : ℕ) (changes : List Transition) → list_all is_ch
 change_changes peer [] = refl
 change_changes peer (change ∷ changes) = ap (λ b. b && list_all is_change (change_entries peer changes)) (one_change peer change) ∙ change_changes peer changes
 
-one_changes : (d : Upkeep) (number : ℕ) (x : Option Neighbour) → list_all is_change (entries_one d number x) ≡ true
-one_changes d number None = refl
-one_changes d number (Some x) = change_changes number (done d x).changes
+one_changes : (number : ℕ) (o : Option Done) → list_all is_change (entries_one number o) ≡ true
+one_changes number None = refl
+one_changes number (Some x) = change_changes number x.changes
 
 both : (es fs : List Entry) → list_all is_change es ≡ true → list_all is_change fs ≡ true → list_all is_change (es ++ fs) ≡ true
 both es fs first then = list_all-append is_change es fs ∙ ap (λ b. b && list_all is_change fs) first ∙ then
 
-pub all_changes : (d : Upkeep) (number : ℕ) (xs : List (Option Neighbour)) → list_all is_change (entries_all d number xs) ≡ true
+pub all_changes : (number : ℕ) (os : List (Option Done)) → list_all is_change (entries_all number os) ≡ true
 unfolding entries_all
-all_changes d number [] = refl
-all_changes d number (x ∷ xs) = both (entries_one d number x) (entries_all d (number + 1) xs) (one_changes d number x) (all_changes d (number + 1) xs)
+all_changes number [] = refl
+all_changes number (o ∷ os) = both (entries_one number o) (entries_all (number + 1) os) (one_changes number o) (all_changes (number + 1) os)
 
 is_true : (b : Bool) → (b ≡ false → ⊥) → b ≡ true
 is_true true wrong = refl

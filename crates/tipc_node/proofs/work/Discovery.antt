@@ -26,7 +26,7 @@ use Rattle.tipc_pair.specs.Facing.{is_up_at, state_of}
 use Rattle.tipc_node.specs.declared.frames.Due.{Due}
 use Rattle.tipc_node.specs.declared.neighbours.Neighbour.{Neighbour}
 use Rattle.tipc_node.specs.Discovery.{AreFound, discovered_frames, discovered_node, found_frames, found_node, has_found, responses, welcome_frames, welcomed, with_found}
-use Rattle.tipc_node.specs.Neighbours.{making, neighbour}
+use Rattle.tipc_node.specs.Neighbours.{making, with_pair}
 use Rattle.tipc_node.specs.Hearings.{FindsDue}
 use Rattle.tipc_node.specs.Nodes.{NodeState, end_with, is_other, neighbour_of, recorded, step_of}
 use Rattle.tipc_node.proofs.pairs.Acquainting.{same_acquaintance}
@@ -99,7 +99,7 @@ discovered_by n peer bearer f now journal h = by (has_found n bearer peer) h.is
         found_more n.found now bearer (node_word peer) h.one h.own (h.here ∙ ap (λ g. after_hearing g (node_word peer) (heard_on bearer n.found)) new) h.there in
         let neighbours =
         ap (λ g. welcomed n.own n.boot g peer bearer n.neighbours) new
-        ∙ ap (λ (x : Neighbour). slice_set n.neighbours peer (Some (neighbour (making bearer x).pair x.in_step))) (same_acquaintance n peer (neighbour_of n peer)) in
+        ∙ ap (λ (x : Neighbour). slice_set n.neighbours peer (Some (with_pair x (making bearer x).pair))) (same_acquaintance n peer (neighbour_of n peer)) in
         (λ i. record n { found = more i; neighbours = neighbours i; journal = journal })
 
 -- the parts of a node after a discovery packet that it doesn't touch

@@ -5,6 +5,7 @@ use Rattle.tipc_types.specs.Address.{node_word}
 use Rattle.tipc_types.specs.declared.message_forms.Message.{Message}
 use Rattle.tipc_outside.specs.Frames.{Out}
 use Rattle.tipc_journal.specs.declared.entries.Entry.{Entry}
+use Rattle.tipc_broadcast.specs.Casting.{Casting}
 use Rattle.tipc_discovery.specs.Hearing.{Neighbourhood}
 use Rattle.tipc_sockets.specs.declared.fates.Fate.{Fate}
 use Rattle.tipc_sockets.specs.Fates.{after_fate}
@@ -27,8 +28,8 @@ abbrev pub draft_of : List (Option Neighbour) → SocketTable → List Entry →
 draft_of xs s es copies out = record { work = work_of xs s es; copies = copies; out = out }
 
 -- the node of these parts, which works on that draft
-abbrev pub core_of : ℕ → ℕ → Bool × Bool → Neighbourhood → ℕ → DraftState → List Entry → NodeState
-core_of own boot mended found ticks d journal = record { own = own; boot = boot; mended = mended; found = found; ticks = ticks; neighbours = d.work.neighbours; sockets = d.work.sockets; journal = journal }
+abbrev pub core_of : ℕ → ℕ → Bool × Bool → Neighbourhood → ℕ → Casting → DraftState → List Entry → NodeState
+core_of own boot mended found ticks v d journal = record { own = own; boot = boot; mended = mended; found = found; ticks = ticks; neighbours = d.work.neighbours; sockets = d.work.sockets; journal = journal; casting = v }
 
 -- A neighbour that was copied is changed, and the sockets are as they were.
 pub start_changed : (d : DraftState) (xs seen copies copies' : List (Option Neighbour)) (s : SocketTable) (es es' : List Entry) (box box' : Out) (i : ℕ) (y : Option Neighbour)

@@ -1,6 +1,6 @@
 -- What the code of an arrival did to the parts of a node is what the arrival makes of it.
-use Rattle.std.proofs.Common.{◌≡◌, ℕ, zero, suc, ◌<◌, true, List, [], ◌∷◌, ◌++◌, Option, Some, None, length, refl, sym, ap, subst, ◌∙◌}
-use Rattle.std.specs.Prelude.{is_some, fold, slice_set}
+use Rattle.std.proofs.Common.{◌≡◌, ℕ, zero, suc, ◌<◌, Bool, true, List, [], ◌∷◌, ◌++◌, Option, Some, None, length, refl, sym, ap, subst, ◌∙◌}
+use Rattle.std.specs.Prelude.{IfNone, IfSome, is_some, fold, slice_set, unwrap_or}
 use Rattle.std.specs.List.{list_all}
 use Rattle.std.proofs.lemmas.List.{get_or-set_same}
 use Rattle.tipc_types.specs.declared.message_forms.Message.{Message}
@@ -20,9 +20,14 @@ use Rattle.tipc_node.specs.declared.frames.Due.{Due}
 use Rattle.tipc_node.specs.declared.frames.Hearing.{Hearing}
 use Rattle.tipc_node.specs.declared.packets.HeardPacket.{HeardPacket}
 use Rattle.tipc_node.specs.declared.neighbours.Neighbour.{Neighbour}
-use Rattle.tipc_node.specs.Arrivals.{Greets, IsDue}
-use Rattle.tipc_node.specs.Hearings.{is_plain, AllDelivered, Followed, HasHeard, IsHeard, IsPrepared, Worked, heard_at}
-use Rattle.tipc_node.specs.Neighbours.{answered_neighbour, answering}
+use Rattle.tipc_types.specs.Address.{node_word}
+use Rattle.tipc_types.specs.declared.link_words.BroadcastState.{BroadcastState}
+use Rattle.tipc_broadcast.specs.Casting.{Casting, shown}
+use Rattle.tipc_node.specs.Arrivals.{Greets, IsDue, answered_work, asks_peer, last_course, last_neighbour, with_answer}
+use Rattle.tipc_node.specs.Casting.{IsOfNode, arrival_deeds}
+use Rattle.tipc_node.specs.Neighbours.{answering}
+use Rattle.tipc_node.proofs.work.Casting.{arrivals_bear, deeds_of_node}
+use Rattle.tipc_node.specs.Hearings.{is_plain, AllDelivered, Followed, HasHeard, IsHeard, IsPrepared, ToldCasting, Worked, heard_at}
 use Rattle.tipc_node.specs.Nodes.{NodeState, change_entries, entries_in, is_change, message_count, neighbour_of, shown_contact}
 use Rattle.tipc_node.specs.Sure.{all_wait, messages_in, told_in, with_all_waiting}
 use Rattle.tipc_node.specs.Works.{Work, concluded, work_of}
@@ -46,30 +51,41 @@ some_place (Some y) there = (y, refl)
 
 -- ---- the STATE leaves behind the packet
 
--- y sent as z the STATE that was due on a bearer
-pub record HasAnswered (bearer : ℕ) (y z : Neighbour) (box box' : Out) : Type 0 where
-  pub answered : z ≡ answered_neighbour bearer y
-  pub state : Adds box box' (answering bearer y).states
+-- a STATE was taken, and y sent as z the one that was due on a bearer
+pub record HasAnswered (peer bearer : ℕ) (stated : Option BroadcastState) (v v' : Casting) (y z : Neighbour) (box between box' : Out) : Type 0 where
+  pub cast : ToldCasting peer [] stated v v' box between
+  pub answered : z ≡ last_neighbour peer bearer stated v' y
+  pub state : Adds between box' (last_course peer bearer stated v' y).states
+
+-- it is the one that was due, where it was asked for as the broadcast link says, and shows that
+pub answered_last : (w w' : Work) (peer bearer : ℕ) (stated : Option BroadcastState) (v : Casting) (asks : Bool) (shows : BroadcastState) (y : Neighbour) (box box' : Out) → asks ≡ asks_peer peer stated v → shows ≡ shown v (node_word peer)
+    → (w' ≡ with_answer w peer bearer asks shows y) × Adds box box' (answering bearer asks shows y).states → (w' ≡ answered_work w peer bearer stated v y) × Adds box box' (last_course peer bearer stated v y).states
+answered_last w w' peer bearer stated v asks shows y box box' asked same h = (
+  h.0 ∙ (λ i. with_answer w peer bearer (asked i) (same i) y),
+  subst (Adds box box') (λ i. (answering bearer (asked i) (same i) y).states) h.1,
+)
 
 -- the neighbours after it
-answered_place : (xs : List (Option Neighbour)) (peer bearer : ℕ) (y z : Neighbour) (box box' : Out) → HasAnswered bearer y z box box'
-    → slice_set xs peer (Some z) ≡ slice_set (slice_set xs peer (Some y)) peer (Some (answered_neighbour bearer y))
-answered_place xs peer bearer y z box box' h = ap (λ (w : Neighbour). slice_set xs peer (Some w)) h.answered ∙ sym (set_twice xs peer (Some y) (Some (answered_neighbour bearer y)))
+answered_place : (xs : List (Option Neighbour)) (peer : ℕ) (y z last : Neighbour) → z ≡ last → slice_set xs peer (Some z) ≡ slice_set (slice_set xs peer (Some y)) peer (Some last)
+answered_place xs peer y z last is = ap (λ (w : Neighbour). slice_set xs peer (Some w)) is ∙ sym (set_twice xs peer (Some y) (Some last))
 
 -- what followed where nobody is greeted, and the neighbours stay while something is delivered
-quiet_followed : (own peer bearer : ℕ) (xs : List (Option Neighbour)) (s : SocketTable) (y z : Neighbour) (changes : List Transition) (ds : List Delivery) (sockets : SocketTable) (inside : List Entry) (a b c : Out)
-    → peer < length xs → Greets (fold after_entry s (change_entries peer changes)).live changes [] → AllDelivered own peer (heard_at xs s peer y changes) ds (work_of (slice_set xs peer (Some y)) sockets inside) a b → HasAnswered bearer y z b c
-    → Followed own peer bearer changes ds (heard_at xs s peer y changes) (work_of (slice_set xs peer (Some z)) sockets inside) a c
-quiet_followed own peer bearer xs s y z changes ds sockets inside a b c within nobody delivered h = record {
-  told = heard_at xs s peer y changes;
+quiet_followed : (own peer bearer : ℕ) (stated : Option BroadcastState) (v v' : Casting) (xs : List (Option Neighbour)) (s : SocketTable) (y z : Neighbour) (ds : List Delivery) (sockets : SocketTable) (inside : List Entry) (a b c : Out)
+    → peer < length xs → Greets (fold after_entry s (change_entries peer [])).live [] [] → AllDelivered own peer (heard_at xs s peer y []) ds (work_of (slice_set xs peer (Some y)) sockets inside) b b
+    → HasAnswered peer bearer stated v v' y z a b c
+    → Followed own peer bearer [] stated ds v v' (heard_at xs s peer y []) (work_of (slice_set xs peer (Some z)) sockets inside) a c
+quiet_followed own peer bearer stated v v' xs s y z ds sockets inside a b c within nobody delivered h = record {
+  told = heard_at xs s peer y [];
   told_box = a;
-  greeted = nobody_greeted own peer changes (heard_at xs s peer y changes) a nobody;
+  greeted = nobody_greeted own peer [] (heard_at xs s peer y []) a nobody;
+  cast_box = b;
+  cast = h.cast;
   work = work_of (slice_set xs peer (Some y)) sockets inside;
   work_box = b;
   delivered = delivered;
   then = y;
   then_is = get_or-set_same xs peer (Some y) None within;
-  after = ap (λ ys. work_of ys sockets inside) (answered_place xs peer bearer y z b c h);
+  after = ap (λ ys. work_of ys sockets inside) (answered_place xs peer y z (last_neighbour peer bearer stated v' y) h.answered);
   adds = h.state;
 }
 
@@ -82,33 +98,33 @@ pub record IsAllTold (n : NodeState) (ds : List Delivery) (inside : List Entry) 
   pub sockets_are : sockets ≡ with_all_waiting n.sockets messages
   pub sure : all_wait n.sockets (message_count ds) ds ≡ true
 
-pub taken_all : (n : NodeState) (by : By) (bytes : List ℕ) (x y z : Neighbour) (d : Due) (h : Hearing) (given : HeardPacket) (inside : List Entry) (messages : List Message) (sockets : SocketTable) (a b c : Out)
-    → IsDue n bytes d.bearer d.peer d.first d.second (view d.packet) → neighbour_of n d.peer ≡ Some x → d.peer < length n.neighbours → IsPrepared (neighbour_of n d.peer) d h
-    → HasHeard x d h.number y given a b → given.changes ≡ [] → given.deliveries.items ≡ h.deliveries.items → given.answer ≡ h.answer → HasAnswered d.bearer y z b c
+pub taken_all : (n : NodeState) (v' : Casting) (by : By) (bytes : List ℕ) (x y z : Neighbour) (d : Due) (h : Hearing) (given : HeardPacket) (inside : List Entry) (messages : List Message) (sockets : SocketTable) (a b between c : Out)
+    → IsDue n bytes d.bearer d.peer d.first d.second (view d.packet) → neighbour_of n d.peer ≡ Some x → d.peer < length n.neighbours → IsPrepared (neighbour_of n d.peer) d h → h.shown ≡ shown n.casting (node_word d.peer)
+    → HasHeard x d h.number h.shown y given a b → given.changes ≡ [] → given.deliveries.items ≡ h.deliveries.items → given.answer ≡ h.answer → HasAnswered d.peer d.bearer given.stated n.casting v' y z b between c
     → IsAllTold n h.deliveries.items inside messages sockets
-    → IsHeard n (concluded n by (Arrive d.bearer h.number) (work_of (slice_set n.neighbours d.peer (Some z)) sockets inside) (answer.Arrived h.answer)) by d.bearer h.number bytes a c h.answer
-taken_all n by bytes x y z d h given inside messages sockets a b c due was within prepared heard none same_deliveries same_answer answered k =
+    → IsHeard n (concluded (record n { casting = v' }) by (Arrive d.bearer h.number) (work_of (slice_set n.neighbours d.peer (Some z)) sockets inside) (answer.Arrived h.answer)) by d.bearer h.number bytes a c h.answer
+taken_all n v' by bytes x y z d h given inside messages sockets a b between c due was within prepared shows heard none same_deliveries same_answer answered k =
     let xs = n.neighbours in
     let s = n.sockets in
     let peer = d.peer in
     let ds = h.deliveries.items in
     let start = heard_at xs s peer y [] in
     let all_plain_ones = ap (λ es. list_all is_plain (entries_in es)) prepared.deliveries ∙ all_plain peer (shown_contact prepared.neighbour.pair) (opened_in h.arriving.outcome) in
-    let delivered = sure_delivered n.own peer start ds b k.sure all_plain_ones in
+    let delivered = sure_delivered n.own peer start ds between k.sure all_plain_ones in
     let queued = with_all_waiting s (messages_in ds) in
-    let followed = quiet_followed n.own peer d.bearer xs s y z [] ds queued (told_in ds) b b c within refl delivered answered in
+    let followed = quiet_followed n.own peer d.bearer given.stated n.casting v' xs s y z ds queued (told_in ds) b between c within refl delivered answered in
     let last = work_of (slice_set xs peer (Some z)) sockets inside in
     let sockets_are : queued ≡ sockets = ap (with_all_waiting s) (sym k.messages_are) ∙ sym k.sockets_are in
     let same : work_of (slice_set xs peer (Some z)) queued (told_in ds) ≡ last =
     ap (λ (t : SocketTable). work_of (slice_set xs peer (Some z)) t (told_in ds)) sockets_are ∙ ap (work_of (slice_set xs peer (Some z)) sockets) (sym k.inside_is) in
-    heard_worked n by bytes x d h.number h.answer last a c due was (record {
+    heard_worked n v' by bytes x d h.number h.answer last a c due was (record {
       given = given;
       work = start;
       between = b;
-      heard = record { after = y; heard = heard; work = ap (heard_at xs s peer y) (sym none) };
+      heard = record { after = y; heard = subst (λ (t : BroadcastState). HasHeard x d h.number t y given a b) shows heard; work = ap (heard_at xs s peer y) (sym none) };
       answer = sym same_answer;
-      followed = subst (λ cs. Followed n.own peer d.bearer cs given.deliveries.items start last b c) (sym none)
-          (subst (λ es. Followed n.own peer d.bearer [] es start last b c) (sym same_deliveries) (subst (λ (u : Work). Followed n.own peer d.bearer [] ds start u b c) same followed));
+      followed = subst (λ cs. Followed n.own peer d.bearer cs given.stated given.deliveries.items n.casting v' start last b c) (sym none)
+          (subst (λ es. Followed n.own peer d.bearer [] given.stated es n.casting v' start last b c) (sym same_deliveries) (subst (λ (u : Work). Followed n.own peer d.bearer [] given.stated ds n.casting v' start u b c) same followed));
     })
 
 -- ---- what is true of every node
@@ -141,14 +157,14 @@ told_work neighbours sockets sockets' peer y changes empty empty' inside h =
     ∙ ap (work_of (slice_set neighbours peer (Some y)) (fold after_entry sockets (change_entries peer changes))) entries
 
 -- what was given is plain
-pub heard_plain : (x : Neighbour) (d : Due) (number : ℕ) (y : Neighbour) (h : HeardPacket) (box box' : Out) → HasHeard x d number y h box box' → list_all is_plain (entries_in h.deliveries.items) ≡ true
-heard_plain x d number y h box box' heard =
+pub heard_plain : (x : Neighbour) (d : Due) (number : ℕ) (shown : BroadcastState) (y : Neighbour) (h : HeardPacket) (box box' : Out) → HasHeard x d number shown y h box box' → list_all is_plain (entries_in h.deliveries.items) ≡ true
+heard_plain x d number shown y h box box' heard =
     ap (λ es. list_all is_plain (entries_in es)) heard.deliveries ∙ all_plain d.peer (shown_contact x.pair) (opened_in heard.out.given)
 
 -- the sockets are of the same node, and have the same ports
-pub worked_same : (own : ℕ) (xs : List (Option Neighbour)) (s : SocketTable) (x : Neighbour) (d : Due) (number : ℕ) (answered : Arrival) (w' : Work) (box box' : Out) → Worked own xs s x d number answered w' box box'
+pub worked_same : (own : ℕ) (v v' : Casting) (xs : List (Option Neighbour)) (s : SocketTable) (x : Neighbour) (d : Due) (number : ℕ) (answered : Arrival) (w' : Work) (box box' : Out) → Worked own v v' xs s x d number answered w' box box'
     → IsSameNode s w'.sockets
-worked_same own xs s x d number answered w' box box' h =
+worked_same own v v' xs s x d number answered w' box box' h =
     let f = h.followed in
     let stable = ports_stable own s in
     let first : IsSameNode s h.work.sockets = subst (λ (w : Work). IsSameNode s w.sockets) (sym h.heard.work) (same_folded s (change_entries d.peer h.given.changes)) in
@@ -156,10 +172,18 @@ worked_same own xs s x d number answered w' box box' h =
     let all = all_stable own d.peer (λ (w : Work). IsSameNode s w.sockets) stable f.told h.given.deliveries.items f.work f.delivered.frames f.delivered.delivers told in
     subst (λ (w : Work). IsSameNode s w.sockets) (sym f.after) all
 
+-- the broadcast link is still that of the node
+pub worked_of_node : (own : ℕ) (v v' : Casting) (xs : List (Option Neighbour)) (s : SocketTable) (x : Neighbour) (d : Due) (number : ℕ) (answered : Arrival) (w' : Work) (box box' : Out) (word boot : ℕ) (mended : Bool × Bool)
+    → Worked own v v' xs s x d number answered w' box box' → IsOfNode word boot mended v → IsOfNode word boot mended v'
+worked_of_node own v v' xs s x d number answered w' box box' word boot mended h was =
+    subst (IsOfNode word boot mended) (sym h.followed.cast.after) (deeds_of_node word boot mended (arrival_deeds d.peer h.given.changes h.given.stated) v (arrivals_bear d.peer h.given.changes h.given.stated) was)
+
+-- where memory runs out it is what it was: its copy is put back, or nothing changed it
+pub put_back_same : (A B : Type 0) (v w w' : Casting) (kept : Option Casting) → w' ≡ unwrap_or kept w → IfSome kept (λ copy. copy ≡ v) → IfNone kept (A × B) → (A → B → w ≡ v) → w' ≡ v
+put_back_same A B v w w' None is some none still = is ∙ still none.0 none.1
+put_back_same A B v w w' (Some copy) is some none still = is ∙ some
+
 -- a node whose parts are as they were
-pub same_parts : (n m : NodeState) (xs : List (Option Neighbour)) (s : SocketTable) (es : List Entry) → xs ≡ n.neighbours → s ≡ n.sockets → es ≡ n.journal → n ≡ m
-    → record n { neighbours = xs; sockets = s; journal = es } ≡ m
-same_parts n m xs s es one two three is =
-    ap (λ (ys : List (Option Neighbour)). record n { neighbours = ys; sockets = s; journal = es }) one
-    ∙ ap (λ (t : SocketTable). record n { sockets = t; journal = es }) two
-    ∙ ap (λ (fs : List Entry). record n { journal = fs }) three ∙ is
+pub same_parts : (n m : NodeState) (xs : List (Option Neighbour)) (s : SocketTable) (es : List Entry) (v : Casting) → xs ≡ n.neighbours → s ≡ n.sockets → es ≡ n.journal → v ≡ n.casting → n ≡ m
+    → record n { neighbours = xs; sockets = s; journal = es; casting = v } ≡ m
+same_parts n m xs s es v one two three four is = (λ i. record n { neighbours = one i; sockets = two i; journal = three i; casting = four i }) ∙ is

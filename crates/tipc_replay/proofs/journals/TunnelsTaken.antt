@@ -1,6 +1,7 @@
 -- An arrival of which a pair took a tunnel packet is answered so.
 use Rattle.std.proofs.Common.{◌≡◌, ◌<◌, ◌^◌, ◌++◌, ◌∙◌, length-append, ℕ, List, [], ◌∷◌, Option, Some, None, drop, length, slice_get, refl, sym, ap, subst, arith}
 use Rattle.std.proofs.lemmas.List.{drop_at}
+use Rattle.tipc_types.specs.Address.{node_word}
 use Rattle.tipc_types.specs.declared.message_forms.Flow.TheVariants.{Zero}
 use Rattle.tipc_types.specs.declared.link_words.BroadcastState.{BroadcastState}
 use Rattle.tipc_types.specs.declared.link_words.Why.{Why}
@@ -35,7 +36,7 @@ use Rattle.tipc_paired.proofs.wires.Frames.{er_of-frame, es_of-frame, same_packe
 use Rattle.tipc_paired.specs.Views.{er_of, es_of}
 use Rattle.tipc_node.specs.declared.frames.Delivery.{Delivery}
 use Rattle.tipc_node.specs.Arrivals.{Arrives, Hears}
-use Rattle.tipc_node.specs.Neighbours.{no_broadcast}
+use Rattle.tipc_broadcast.specs.Casting.{shown}
 use Rattle.tipc_node.specs.Nodes.{NodeState, arrival_answer, arrival_deliveries, message_count, pair_with, step_of, stop_of}
 use Rattle.tipc_node.proofs.pairs.Strangers.{pair_there}
 use Rattle.tipc_node.specs.Turns.{IsFrom, NodeTurn}
@@ -138,13 +139,13 @@ heard_taken n n' by bearer number bytes frames answered h t =
     let first : t.es ≡ h.first = same_first t.es t.er h.first h.second (spelling t.packet) (spelling h.packet) from.es_fits from.er_fits due.es_fits due.er_fits frames_are in
     let second : t.er ≡ h.second = same_second t.es t.er h.first h.second (spelling t.packet) (spelling h.packet) from.es_fits from.er_fits due.es_fits due.er_fits frames_are in
     let same : pair_with n t.sender ≡ h.neighbour.pair = ap (pair_with n) peer ∙ pair_there n h.peer h.neighbour h.was in
-    let shown = no_broadcast h.neighbour.in_step in
-    let heard : Happened (pair_with n t.sender) (hears bearer t.es t.er t.packet number shown) h.out =
-    subst (λ k. Happened (pair_with n t.sender) (hears bearer k t.er t.packet number shown) h.out) (sym first)
-    (subst (λ k. Happened (pair_with n t.sender) (hears bearer h.first k t.packet number shown) h.out) (sym second)
-    (subst (λ k. Happened (pair_with n t.sender) (hears bearer h.first h.second k number shown) h.out) (sym packet)
-    (subst (λ (k : PairEnds). Happened k (hears bearer h.first h.second h.packet number shown) h.out) (sym same) h.hears))) in
-    let took = took_alike (pair_with n t.sender) bearer t.es t.er t.packet number t.shown shown t.tunnel t.outset h.out t.header_is t.happened heard t.took in
+    let shows = shown n.casting (node_word h.peer) in
+    let heard : Happened (pair_with n t.sender) (hears bearer t.es t.er t.packet number shows) h.out =
+    subst (λ k. Happened (pair_with n t.sender) (hears bearer k t.er t.packet number shows) h.out) (sym first)
+    (subst (λ k. Happened (pair_with n t.sender) (hears bearer h.first k t.packet number shows) h.out) (sym second)
+    (subst (λ k. Happened (pair_with n t.sender) (hears bearer h.first h.second k number shows) h.out) (sym packet)
+    (subst (λ (k : PairEnds). Happened k (hears bearer h.first h.second h.packet number shows) h.out) (sym same) h.hears))) in
+    let took = took_alike (pair_with n t.sender) bearer t.es t.er t.packet number t.shown shows t.tunnel t.outset h.out t.header_is t.happened heard t.took in
     took_answer answered h.out.given (arrival_deliveries Zero h.peer h.neighbour.pair h.out.given) h.answer_is took
 
 -- a tunnel packet is a link packet

@@ -9,4 +9,4 @@ pub prepare_deliveries-requires-clause-sound : goal.prepare_deliveries-requires-
 prepare_deliveries-requires-clause-sound c =
     let d = c.args.due.now in
     subst (λ o. All HasNoFault (opened_in o)) (sym c.outcome.ensures)
-    (prepared_sound c.args.neighbour.now.pair d.first d.second (view d.packet) c.args.number c.no_broadcast-shown.result c.in_ok-arriving.arriving c.in_ok-arriving.ensures.prepares)
+    (prepared_sound c.args.neighbour.now.pair d.first d.second (view d.packet) c.args.number c.args.shown c.in_ok-arriving.arriving c.in_ok-arriving.ensures.prepares)

@@ -3,7 +3,7 @@ use Rattle.tipc_node.proofs.work.Reaching.{due_at, finds_at, found_met, heard_me
 use Rattle.tipc_node.proofs.cores.Core.arrive.Goals as goal
 
 pub hear-requires : goal.hear-requires
-hear-requires c = record { due = due_at c.args.self.now c.args.frame.now c.in-Ok.due (c.in-Ok.ensures.due c.in-Links.is) }
+hear-requires c = record { due = due_at c.args.self.now c.args.frame.now c.in-Ok.due (c.in-Ok.ensures.due c.in-Links.is); joined = c.requires.joined }
 
 pub find-requires-clause-due : goal.find-requires-clause-due
 find-requires-clause-due c = finds_at c.args.self.now c.args.frame.now c.in-Ok.due (c.in-Ok.ensures.brings c.in-Finds.is)

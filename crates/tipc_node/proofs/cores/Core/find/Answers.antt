@@ -42,6 +42,7 @@ invariant_of-self-2 c =
       ap (λ (z : DraftState). z.work.sockets.ports.boot) set ∙ i.3,
       c.heard.ensures.own ∙ i.4,
       i.5,
+      i.6,
     )
 
 pub returns-clause-found : goal.returns-clause-found
@@ -66,9 +67,9 @@ returns-clause-found c =
     let told : journal ≡ n.journal ++ step_entries (step_of c.args.by (Arrive d.bearer c.args.number) [] (answer.Arrived (arrival.Took 0))) =
     c.record.ensures ∙ ap (λ front. front ++ step_entries (step_of c.args.by (Arrive d.bearer c.args.number) c.new.result.items (answer.Arrived (arrival.Took 0)))) c.begin.ensures.journal
     ∙ ap (λ inside. n.journal ++ step_entries (step_of c.args.by (Arrive d.bearer c.args.number) inside (answer.Arrived (arrival.Took 0)))) c.new.ensures.items in
-    let last = core_of w.own.word w.boot w.mended now w.ticks c.welcome.new.draft journal in
+    let last = core_of w.own.word w.boot w.mended now w.ticks w.broadcast c.welcome.new.draft journal in
     let after =
-    ap (λ z. core_of w.own.word w.boot w.mended now w.ticks z journal) c.welcome.ensures.after
+    ap (λ z. core_of w.own.word w.boot w.mended now w.ticks w.broadcast z journal) c.welcome.ensures.after
     ∙ discovered_recorded n c.args.by c.args.number d.peer d.bearer f now journal heard told in
     let responded = subst (λ own. AddsFirst c.new-event.result c.respond.new.event
     (if is_request d.packet.header then record { bearer = d.bearer; to = to.Node (record { word = node_word d.peer }); frame = discovery_frame own w.boot Response } ∷ [] else []))

@@ -25,6 +25,7 @@ invariant_of-self-2 c =
       ap (λ (p : PortTable). p.boot) same.ports ∙ i.3,
       i.4,
       i.5,
+      i.6,
     )
 
 pub returns-clause-sent : goal.returns-clause-sent

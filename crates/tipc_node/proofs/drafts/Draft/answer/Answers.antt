@@ -2,7 +2,7 @@ use Rattle.std.proofs.Common.{◌<◌, Some, None, length, sym, ap, subst, ◌�
 use Rattle.std.specs.Prelude.{slice_index_or, slice_set}
 use Rattle.tipc_outside.specs.Frames.{Adds}
 use Rattle.tipc_node.specs.declared.neighbours.Neighbour.{Neighbour}
-use Rattle.tipc_node.specs.Arrivals.{answered_work}
+use Rattle.tipc_node.specs.Arrivals.{with_answer}
 use Rattle.tipc_node.specs.Drafts.{DraftState}
 use Rattle.tipc_node.specs.Neighbours.{answered_neighbour, answering}
 use Rattle.tipc_node.specs.Works.{work_of}
@@ -32,8 +32,8 @@ returns-clause-answered c = λ y was.
     let x = c.in-Some.neighbour in
     let here = read_at xs c.args.peer c.index_mut.result.now x within c.index_mut.ensures.value c.in-Some.is in
     let same = same_neighbour x y (sym here ∙ ap (λ (z : DraftState). slice_index_or z.work.neighbours c.args.peer None) c.self.view_is ∙ was) in (
-      ap (λ (n : Neighbour). work_of (slice_set xs c.args.peer (Some n)) w.sockets w.inside.items) (c.answer.ensures.after ∙ ap (answered_neighbour c.args.bearer) same)
-          ∙ ap (λ (z : DraftState). answered_work z.work c.args.peer c.args.bearer y) c.self.view_is,
-      subst (λ (z : DraftState). Adds z.out c.answer.new.out (answering c.args.bearer y).states) c.self.view_is
-          (subst (λ (n : Neighbour). Adds w.out c.answer.new.out (answering c.args.bearer n).states) same c.answer.ensures.frames),
+      ap (λ (n : Neighbour). work_of (slice_set xs c.args.peer (Some n)) w.sockets w.inside.items) (c.answer.ensures.after ∙ ap (answered_neighbour c.args.bearer c.args.asks c.args.shown) same)
+          ∙ ap (λ (z : DraftState). with_answer z.work c.args.peer c.args.bearer c.args.asks c.args.shown y) c.self.view_is,
+      subst (λ (z : DraftState). Adds z.out c.answer.new.out (answering c.args.bearer c.args.asks c.args.shown y).states) c.self.view_is
+          (subst (λ (n : Neighbour). Adds w.out c.answer.new.out (answering c.args.bearer c.args.asks c.args.shown n).states) same c.answer.ensures.frames),
     )

@@ -1,5 +1,5 @@
 use Rattle.std.proofs.Common.{◌++◌, ◌<◌, Some, None, length, length-set, ap, sym, subst, ◌∙◌, arith}
-use Rattle.std.specs.Prelude.{List, fold, slice_index_or, slice_set}
+use Rattle.std.specs.Prelude.{List, Option, fold, slice_index_or, slice_set}
 use Rattle.std.specs.List.{list_all}
 use Rattle.std.proofs.lemmas.List.{get_or-set_other}
 use Rattle.tipc_journal.specs.declared.entries.Entry.{Entry}
@@ -7,7 +7,8 @@ use Rattle.tipc_sockets.specs.Telling.{after_entry}
 use Rattle.tipc_node.specs.declared.neighbours.Neighbour.{Neighbour}
 use Rattle.tipc_node.specs.Drafts.{DraftState, restored}
 use Rattle.tipc_node.specs.Hearings.{HeardThere, IsPrepared}
-use Rattle.tipc_node.specs.Nodes.{change_entries, is_change}
+use Rattle.tipc_node.specs.Casting.{CanBeTold}
+use Rattle.tipc_node.specs.Nodes.{change_entries, is_change, is_met}
 use Rattle.tipc_node.specs.Works.{work_of}
 use Rattle.tipc_sockets.specs.SocketTables.{SocketTable}
 use Rattle.tipc_node.proofs.work.Changes.{same_folded}
@@ -64,8 +65,8 @@ returns-clause-heard c = λ x was.
     let was_here = ap (λ (k : DraftState). slice_index_or k.work.neighbours d.peer None) c.self.view_is ∙ was in
     let inside = c.note_changes.new.inside.items in
     let last = work_of (slice_set xs d.peer (Some z)) c.purge_ended.new.sockets inside in
-    subst (λ (k : DraftState). HeardThere k.work.neighbours k.work.sockets x d c.args.heard.number given last k.out c.hear-given.new.out) c.self.view_is
-    (subst (λ (k : Neighbour). HeardThere xs s k d c.args.heard.number given last c.self.inside.out c.hear-given.new.out) (same_neighbour y x (sym here ∙ was_here)) (record {
+    subst (λ (k : DraftState). HeardThere k.work.neighbours k.work.sockets x d c.args.heard.number c.args.heard.shown given last k.out c.hear-given.new.out) c.self.view_is
+    (subst (λ (k : Neighbour). HeardThere xs s k d c.args.heard.number c.args.heard.shown given last c.self.inside.out c.hear-given.new.out) (same_neighbour y x (sym here ∙ was_here)) (record {
       after = z;
       heard = c.hear-given.ensures.heard;
       work = told_work xs s c.purge_ended.new.sockets d.peer z given.changes c.self.inside.inside.items c.reserve.new.self.items inside (record {
@@ -87,7 +88,7 @@ returns-clause-contact c =
 
 pub returns-clause-plain : goal.returns-clause-plain
 returns-clause-plain c =
-    heard_plain c.in-Some.neighbour c.args.due.now c.args.heard.number c.hear-given.new.self c.hear-given.result c.self.inside.out c.hear-given.new.out c.hear-given.ensures.heard
+    heard_plain c.in-Some.neighbour c.args.due.now c.args.heard.number c.args.heard.shown c.hear-given.new.self c.hear-given.result c.self.inside.out c.hear-given.new.out c.hear-given.ensures.heard
 
 pub returns-clause-start : goal.returns-clause-start
 returns-clause-start c =
@@ -107,3 +108,14 @@ pub returns-in_err-reserve-clause-start : goal.returns-in_err-reserve-clause-sta
 returns-in_err-reserve-clause-start c =
     let w = c.self.inside in
     start_kept c.args.self.now w.neighbours.items c.as_slice.result.now w.copies.items c.keep.new.copies.items w.sockets w.inside.items c.reserve.new.self.items w.out w.out c.self.view_is c.as_slice.ensures.value c.keep.ensures.same
+
+pub returns-clause-told : goal.returns-clause-told
+returns-clause-told c =
+    let xs = c.self.inside.neighbours.items in
+    let d = c.args.due.now in
+    let wide = c.self.invariant.1.wide in
+    let peer = c.requires.peer in
+    let within : d.peer < length xs = omega (arith, wide, peer) in
+    let here = place_is xs d.peer c.index_mut.result.now c.in-Some.neighbour within c.index_mut.ensures.value c.in-Some.is in
+    subst (λ (z : DraftState). CanBeTold (is_met (slice_index_or z.work.neighbours d.peer None)) c.hear-given.result.changes c.hear-given.result.stated) c.self.view_is
+    (subst (λ (o : Option Neighbour). CanBeTold (is_met o) c.hear-given.result.changes c.hear-given.result.stated) (sym here) c.hear-given.ensures.told)

@@ -1,5 +1,6 @@
 use Rattle.std.proofs.Common.{◌∙◌, ap, sym}
 use Rattle.tipc_sockets.specs.SocketTables.{no_sockets}
+use Rattle.tipc_broadcast.specs.Casting.{booted}
 use Rattle.tipc_node.specs.Discovery.{nobody_heard}
 use Rattle.tipc_node.proofs.journal.FirstTold.{new_told}
 use Rattle.tipc_node.proofs.Keeping.{held_of}
@@ -13,7 +14,8 @@ invariant_of-result c =
     let made = c.in_ok-core.ensures in
     let none = made.empty.0 ∙ ap (λ w. no_sockets w c.args.boot) (sym made.own.0) ∙ ap (no_sockets n.own) (sym made.own.1) in
     let unheard = made.unheard ∙ ap nobody_heard (sym made.own.0) in
-    held_of n (new_kept n c.sound.ensures.epochs none c.sound.ensures.sockets made.empty.1 made.alone unheard)
+    let fresh = made.casting ∙ ap (λ w. booted w c.args.boot) (sym made.own.0) ∙ ap (booted n.own) (sym made.own.1) in
+    held_of n (new_kept n c.sound.ensures.epochs none c.sound.ensures.sockets made.empty.1 made.alone unheard fresh)
 
 pub returns-clause-told : goal.returns-clause-told
 returns-clause-told c =
