@@ -1,9 +1,10 @@
 //! Tests of one thread with several passes of a locked node.
 
-ghost use Rattle.std.specs.Prelude.{◌≡◌, ◌≤◌, length, replicate, All, IfOk};
+ghost use Rattle.std.specs.Prelude.{◌≡◌, ◌≤◌, false, length, replicate, All, IfOk};
 ghost use Rattle.tipc_stamp.specs.Seats.{new_seat};
 ghost use Rattle.tipc_node.specs.Calls.{CanPerform};
 ghost use Rattle.tipc_node_lock.specs.Locks.{IsPassOf};
+ghost use Rattle.tipc_node_lock.specs.Sections.{is_receive};
 
 use crate::readings::{are_made_by, are_stamped_from_0};
 use std::alloc::Global;
@@ -39,7 +40,7 @@ pub fn locked(
 }
 
 /// The call is answered so.
-fn answers<R: Wait + Abort>(
+pub fn answers<R: Wait + Abort>(
     rt: &R,
     alloc: Global,
     lock: &NodeLock<'_, RoundRobin>,
@@ -49,6 +50,7 @@ fn answers<R: Wait + Abort>(
 )
     requires pass { IsPassOf lock.now pass.old }
     requires can { CanPerform call }
+    requires locked { is_receive call ≡ false }
     ensures { IsPassOf lock.now pass.new }
 {
     match lock.perform(rt, alloc, pass, call) {

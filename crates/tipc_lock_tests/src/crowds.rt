@@ -1,13 +1,14 @@
 //! A test of several threads that call one node at the same time.
 
-ghost use Rattle.std.specs.Prelude.{◌≡◌, replicate, All, IfOk};
+ghost use Rattle.std.specs.Prelude.{◌≡◌, false, replicate, All, IfOk};
 ghost use Rattle.tipc_stamp.specs.Seats.{new_seat};
 ghost use Rattle.tipc_lock_tests.specs.declared.crowds.TheConstants.{CALLERS};
 ghost use Rattle.tipc_node.specs.Calls.{CanPerform};
 ghost use Rattle.tipc_node_lock.specs.Locks.{IsPassOf};
+ghost use Rattle.tipc_node_lock.specs.Sections.{is_receive};
 
 use crate::callers::{locked, unlocked};
-use crate::readings::{are_made_by, are_stamped_from_0};
+use crate::readings::{are_made_by, are_stamped_from_0, count_steps};
 use std::alloc::Global;
 use std::process::Abort;
 use std::sync::Wait;
@@ -22,20 +23,47 @@ use tipc_types::*;
 /// How many threads call the node.
 const CALLERS: u32 = 8;
 
-/// How often each of them calls it. (A longer form of this test makes 10,000 calls each.)
+/// How many locked calls each of them makes. (A longer form of this test makes 10,000 each.)
 const CALLS: u32 = 500;
 
-/// The call that a caller makes as its so many-th: a socket first, then it looks into its inbox, and a tick passes.
-fn call_of(number: u32, caller: u32) -> EventNote
-    ensures { CanPerform result }
+/// The locked call that a caller makes as its so many-th: a socket first, then it sends a message to one of the sockets, and a tick passes.
+fn call_of(alloc: Global, number: u32) -> Result<EventNote, NoMemory>
+    ensures { IfOk result (λ call. CanPerform call × (is_receive call ≡ false)) }
 {
     if number == 0 {
-        return EventNote::Socket;
+        return Ok(EventNote::Socket);
     }
-    if number % 2 == 1 {
-        return EventNote::Receive { port: caller };
+    if number % 8 == 0 {
+        return Ok(EventNote::Tick);
     }
-    EventNote::Tick
+    Ok(EventNote::SendPort {
+        port: 1 + number % CALLERS,
+        to: PortId {
+            node: Addr::node(1),
+            port: 1 + number % CALLERS,
+        },
+        importance: Importance::Low,
+        body: Body::from_slice(alloc, &number.to_be_bytes())?,
+    })
+}
+
+/// Makes the next locked call of a caller, and receives at each port whose socket it made.
+fn call_once<R: Wait>(
+    rt: &R,
+    alloc: Global,
+    lock: &NodeLock<'_, RoundRobin>,
+    pass: &mut Pass,
+    number: u32,
+) -> Result<(), NoMemory>
+    requires { IsPassOf lock.now pass.old }
+    ensures { IsPassOf lock.now pass.new }
+{
+    let call = call_of(alloc, number)?;
+    let _ = lock.perform(rt, alloc, pass, call);
+    for port in 1..=CALLERS {
+        let _ = lock.receive(rt, pass, port);
+    }
+    Ok(())
 }
 
 /// Makes the calls of a caller, and gives its pass back.
@@ -50,8 +78,7 @@ fn call_on<R: Wait>(
     ensures { IsPassOf lock.now result }
 {
     for number in 0..calls {
-        let call = call_of(number, pass.caller());
-        let _ = lock.perform(rt, alloc, &mut pass, call);
+        let _ = call_once(rt, alloc, lock, &mut pass, number);
     }
     pass
 }
@@ -78,7 +105,7 @@ fn call_together<R: Threads + Wait + Sync>(
     Ok(after)
 }
 
-/// Each pass made its calls, which are its caller's steps, and each stamp below the number of calls stands in one step.
+/// Each pass made its calls, which are its caller's steps, and each stamp below the number of steps stands in one of them.
 fn shows_all(
     rt: &impl Abort,
     alloc: Global,
@@ -91,8 +118,7 @@ fn shows_all(
         assert!(rt; !pass.is_full() && pass.made().len() == calls as usize);
         assert!(rt; are_made_by(journal, pass));
     }
-    let all = CALLERS as usize * calls as usize;
-    assert!(rt; are_stamped_from_0(alloc, journal, all)?);
+    assert!(rt; are_stamped_from_0(alloc, journal, count_steps(journal))?);
     Ok(())
 }
 

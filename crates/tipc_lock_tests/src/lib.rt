@@ -7,4 +7,6 @@ mod callers;
 #[cfg(test)]
 mod crowds;
 #[cfg(test)]
+mod inboxes;
+#[cfg(test)]
 mod readings;

@@ -52,6 +52,14 @@ pub fn are_made_by(journal: &[Entry], pass: &Pass) -> bool {
     same && begun == made.len() && ended == made.len()
 }
 
+/// How many steps a journal has.
+pub fn count_steps(journal: &[Entry]) -> usize {
+    journal
+        .iter()
+        .filter(|entry| matches!(entry, Entry::Step { .. }))
+        .count()
+}
+
 /// Whether the steps of a journal have the stamps below this number, each once, in whatever order.
 pub fn are_stamped_from_0(
     alloc: Global,

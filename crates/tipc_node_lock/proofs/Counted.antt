@@ -126,12 +126,16 @@ step_length J s =
     let inner = length-append s.inside (Answered s.caller s.call s.answer ∷ []) in
     omega (arith, all, inner)
 
--- counts of an empty journal
-pub AreCounts_nil : AreCounts [] []
+-- counts of an empty journal: a place for caller 0
+pub AreCounts_nil : AreCounts [] (0 ∷ [])
 AreCounts_nil = record {
-  each = λ who. ap length (sym (calls_of_nil who));
+  each = λ who. none who ∙ ap length (sym (calls_of_nil who));
   few = λ who. let none = ap length (calls_of_nil who) in omega (arith, none);
 }
+  where
+    none : (who : ℕ) → slice_index_or {A = ℕ} (0 ∷ []) who 0 ≡ zero
+    none zero = refl
+    none (suc who) = refl
 
 -- two numbers that differ by a test are not the same
 apart_not : (n m : ℕ) → (n == m) ≡ false → n ≢ m
@@ -168,7 +172,7 @@ AreCounts_step J s counts counts' whole clean are one others =
         let more = step_length J s in
         (omega (arith, same, here, was), omega (arith, same, few, more))
 
--- no counts beside an empty journal
-pub counts_new : (journal : List Entry) (counts : List ℕ) → journal ≡ [] → counts ≡ [] → AreCounts journal counts
+-- the counts beside an empty journal
+pub counts_new : (journal : List Entry) (counts : List ℕ) → journal ≡ [] → counts ≡ 0 ∷ [] → AreCounts journal counts
 counts_new journal counts empty none =
     subst (λ (J : List Entry). AreCounts J counts) (sym empty) (subst (λ (w : List ℕ). AreCounts [] w) (sym none) AreCounts_nil)

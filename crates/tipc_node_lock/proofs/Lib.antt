@@ -1,3 +1,9 @@
 pub mod Counted
 pub mod Dealing
+pub mod Going
+pub mod Lists
+pub mod Moving
+pub mod Placed
 pub mod Sectioned
+pub mod Taking
+pub mod Telling

@@ -12,7 +12,7 @@ use Rattle.tipc_node.specs.declared.steps.NodeFault.TheVariants as node_fault
 use Rattle.tipc_node.specs.Sockets.{kept_answer}
 use Rattle.tipc_node_lock.specs.declared.faults.LockFault.{LockFault}
 use Rattle.tipc_node_lock.specs.declared.faults.LockFault.TheVariants as fault
-use Rattle.tipc_node_lock.specs.Passes.{IsNextStamp, MayHaveDrawn, PassState, marked_full, having_made}
+use Rattle.tipc_node_lock.specs.Passes.{IsNextStamp, MayHaveDrawn, PassState, having_made, having_moved, marked_full}
 
 -- the lock of a node: its address word, the stamps of its calls, and how many callers it has
 pub record LockState : Type 0 where
@@ -24,11 +24,15 @@ pub record LockState : Type 0 where
 abbrev pub IsPassOf : LockState → PassState → Type 0
 IsPassOf l p = (p.seat.of_table ≡ l.of_table) × (p.own ≡ l.own)
 
--- the caller made this call under a stamp that its seat drew, and it was answered so
+-- The caller made this call under a stamp that its seat drew, and it was answered so; where it made a socket, the pass has the taker of its
+-- inbox. Then messages may have moved, under further stamps.
 pub record HasMade (p p' : PassState) (call : EventNote) (kept : Answer) : Type 0 where
   pub stamp : ℕ
   pub next : IsNextStamp stamp p.seat
-  pub made : p' ≡ having_made p stamp call kept
+  pub inbox : TableId
+  pub moved : List ℕ
+  pub short : Bool
+  pub made : p' ≡ having_moved (having_made p stamp call kept inbox) moved short
 
 -- what a pass knows of a call that wasn't made
 abbrev pub IsTurnedAway : PassState → LockFault → PassState → Type 0

@@ -1,10 +1,11 @@
--- A section: what is done under the lock for one call, exactly. It is one call of the node, or none.
-use Rattle.std.specs.Prelude.{◌≡◌, ◌≢◌, ◌≤◌, ℕ, true, false, List, [], ◌∷◌, ◌++◌, Result, Ok, Err, length}
+-- A section: what is done under the lock for one call, exactly. It is one call of the node, behind which messages move, or none.
+use Rattle.std.specs.Prelude.{◌≡◌, ◌≢◌, ◌≤◌, ℕ, Bool, true, false, List, [], ◌∷◌, ◌++◌, Result, Ok, Err, length}
+use Rattle.atomic_table.specs.Seated.{TableId}
 use Rattle.tipc_types.specs.declared.node_calls.Answer.{Answer}
 use Rattle.tipc_types.specs.declared.node_calls.Answer.TheVariants as answer
 use Rattle.tipc_types.specs.declared.node_calls.Arrival.{Arrival}
 use Rattle.tipc_types.specs.declared.node_calls.EventNote.{EventNote}
-use Rattle.tipc_types.specs.declared.node_calls.EventNote.TheVariants.{Arrive}
+use Rattle.tipc_types.specs.declared.node_calls.EventNote.TheVariants.{Arrive, Receive}
 use Rattle.tipc_journal.specs.declared.entries.Entry.{Entry}
 use Rattle.tipc_journal.specs.Counting.{names_sent}
 use Rattle.tipc_journal.specs.Licensed.{IsPicked}
@@ -17,16 +18,25 @@ use Rattle.tipc_node.specs.Sockets.{kept_answer}
 use Rattle.tipc_node.specs.Works.{addr_of_word}
 use Rattle.tipc_node_lock.specs.declared.faults.LockFault.{LockFault}
 use Rattle.tipc_node_lock.specs.declared.faults.LockFault.TheVariants as fault
+use Rattle.tipc_node_lock.specs.Inboxes.{places_after}
 use Rattle.tipc_node_lock.specs.Journals.{answers_to}
 use Rattle.tipc_node_lock.specs.Locked.{LockedState, by_of, chooser_after}
+use Rattle.tipc_node_lock.specs.Moves.{HasMovedAll, MessagesMove}
 use Rattle.tipc_node_lock.specs.Passes.{IsNextStamp, MayHaveDrawn, PassState, marked_full, having_made}
 
--- The pass has one call more, with the stamp that its seat drew and its answer as the journal keeps it; the journal answered its caller once
--- more, so, and no other caller from 1 on.
+-- whether a call is a receive, which is no locked call: it takes from an inbox beside the lock
+abbrev pub is_receive : EventNote → Bool
+is_receive (Receive port) = true
+is_receive call = false
+
+-- The pass has one call more, with the stamp that its seat drew and its answer as the journal keeps it; a socket that was made has an inbox,
+-- and one that was closed has none. The journal answered its caller once more, so, and no other caller from 1 on.
 pub record RecordsOneCall {P : Type 0} (n n' : LockedState P) (p p' : PassState) (stamp : ℕ) (call : EventNote) (kept : Answer) : Type 0 where
   pub room : has_journal_room n.node.journal ≡ true
   pub next : IsNextStamp stamp p.seat
-  pub made : p' ≡ having_made p stamp call kept
+  pub inbox : TableId
+  pub made : p' ≡ having_made p stamp call kept inbox
+  pub places : n'.places ≡ places_after n.places inbox call kept
   pub answered : answers_to p.caller n'.node.journal ≡ answers_to p.caller n.node.journal ++ kept ∷ []
   pub others : (who : ℕ) → 1 ≤ who → who ≢ p.caller → answers_to who n'.node.journal ≡ answers_to who n.node.journal
   pub passes : n'.passes ≡ n.passes
@@ -59,12 +69,30 @@ TurnsAway journal p (fault.Node node_fault.NoMemory) p' = (has_journal_room jour
 abbrev pub Refuses : {P : Type 0} → LockedState P → PassState → LockFault → LockedState P → PassState → Type 0
 Refuses n p why n' p' = (n' ≡ n) × TurnsAway n.node.journal p why p'
 
+-- Behind the call messages moved until each place was cleared or no more could be moved; that answered no caller from 1 on.
+pub record MovesBehind {P : Type 0} (n n' : LockedState P) (p p' : PassState) : Type 0 where
+  pub moves : MessagesMove n n' p p'
+  pub rests : HasMovedAll n' p'
+  pub alone : (who : ℕ) → 1 ≤ who → answers_to who n'.node.journal ≡ answers_to who n.node.journal
+
+-- what is done for a call before messages move, by its answer
+abbrev pub MakesAlone : {P : Type 0} → (P → ℕ → ℕ → ℕ → Type 0) → LockedState P → PassState → EventNote → Result Answer LockFault → LockedState P → PassState → Type 0
+MakesAlone gives n p call (Ok answered) n' p' = MakesOneCall gives n n' p p' call answered
+MakesAlone gives n p call (Err why) n' p' = Refuses n p why n' p'
+
+-- and for an arrival
+abbrev pub HearsAlone : {P : Type 0} → LockedState P → PassState → ℕ → List ℕ → Result Arrival LockFault → LockedState P → PassState → Type 0
+HearsAlone n p bearer frame (Ok arrived) n' p' = HearsOneFrame n n' p p' bearer frame arrived
+HearsAlone n p bearer frame (Err why) n' p' = Refuses n p why n' p'
+
 -- the section of a call, by its answer
 abbrev pub Sections : {P : Type 0} → (P → ℕ → ℕ → ℕ → Type 0) → LockedState P → PassState → EventNote → Result Answer LockFault → LockedState P → PassState → Type 0
-Sections gives n p call (Ok answered) n' p' = MakesOneCall gives n n' p p' call answered
+Sections {P} gives n p call (Ok answered) n' p' =
+    (m : LockedState P) × (q : PassState) × MakesOneCall gives n m p q call answered × MovesBehind m n' q p'
 Sections gives n p call (Err why) n' p' = Refuses n p why n' p'
 
 -- the section of an arrival, by its answer
 abbrev pub ArrivalSections : {P : Type 0} → LockedState P → PassState → ℕ → List ℕ → Result Arrival LockFault → LockedState P → PassState → Type 0
-ArrivalSections n p bearer frame (Ok arrived) n' p' = HearsOneFrame n n' p p' bearer frame arrived
+ArrivalSections {P} n p bearer frame (Ok arrived) n' p' =
+    (m : LockedState P) × (q : PassState) × HearsOneFrame n m p q bearer frame arrived × MovesBehind m n' q p'
 ArrivalSections n p bearer frame (Err why) n' p' = Refuses n p why n' p'

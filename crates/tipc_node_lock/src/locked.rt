@@ -8,16 +8,19 @@ ghost use Rattle.tipc_stamp.specs.Seats.{drew, is_spent};
 ghost use Rattle.tipc_types.specs.Address.{IsNodeWord};
 ghost use Rattle.tipc_node.specs.Calls.{CanPerform};
 ghost use Rattle.tipc_node_lock.specs.Locked.{IsWellKept};
-ghost use Rattle.tipc_node_lock.specs.Passes.{IsNextStamp, with_handed};
-ghost use Rattle.tipc_node_lock.specs.Sections.{ArrivalSections, Sections, TurnsAway};
+ghost use Rattle.tipc_node_lock.specs.Locks.{ArrivalCalls, Calls};
+ghost use Rattle.tipc_node_lock.specs.Passes.{IsNextStamp, IsOfSameCaller, with_handed};
+ghost use Rattle.tipc_node_lock.specs.Sections.{ArrivalSections, HearsAlone, MakesAlone, Sections, TurnsAway, is_receive};
 
 use crate::counts::{count_call, make_place, next_call};
 use crate::faults::LockFault;
+use crate::inboxes::{Place, follow, inbox_for};
 use crate::notes::{copy_call, kept_answer};
 use crate::passes::{MadeCall, Pass};
 use std::alloc::Global;
 use std::marker::Model;
 use std::mem;
+use std::sync::Wait;
 use tipc_node::{Node, NodeFault};
 use tipc_outside::Outbox;
 use tipc_pick::{Chooser, Pick};
@@ -25,21 +28,24 @@ use tipc_stamp::{StampSeat, Stamps};
 use tipc_types::{Addr, Answer, Arrival, By, Bytes, EventNote, NoMemory};
 
 /// A node with what its calls by many threads need: the chooser of its messages by name, the frames that arrived, by their numbers, those that
-/// are to leave, and how often each caller was answered. When it is taken out of its lock, the passes stand in it.
+/// are to leave, how often each caller was answered, and the places of its sockets' inboxes. When it is taken out of its lock, the passes stand
+/// in it.
 ///
-/// Its type keeps that the journal tells what the node is, that the calls of each caller are counted from 0 in it, and that the arrivals in
-/// it are those of the frames.
+/// Its type keeps that the journal tells what the node is, that the calls of each caller are counted from 0 in it, that the arrivals in it are
+/// those of the frames, and that just the sockets have inboxes, to which was offered what was received from their ports.
 #[derive(Drop)]
 pub struct LockedNode<P> {
-    node: Node,
-    chooser: Chooser<P>,
+    pub(crate) node: Node,
+    pub(crate) chooser: Chooser<P>,
     heard: Vec<Bytes>,
-    out: Outbox,
-    counts: Vec<u64>,
+    pub(crate) out: Outbox,
+    pub(crate) counts: Vec<u64>,
+    pub(crate) places: Vec<Place>,
     passes: Vec<Pass>,
 }
 
 impl<P> Model for LockedNode<P> {
+    ghost use Rattle.std.specs.Prelude.{◌≤◌, length};
     ghost use Rattle.tipc_node_lock.specs.Locked.{AreCounts, IsWellKept, LockedState};
 
     ghost Value = { LockedState P };
@@ -49,6 +55,7 @@ impl<P> Model for LockedNode<P> {
       chooser = n.chooser;
       heard = n.heard.items;
       out = n.out;
+      places = n.places.items;
       passes = n.passes.items;
     } };
 
@@ -57,8 +64,9 @@ impl<P> Model for LockedNode<P> {
       chooser = n.chooser;
       heard = n.heard.items;
       out = n.out;
+      places = n.places.items;
       passes = n.passes.items;
-    }) × AreCounts n.node.journal n.counts.items };
+    }) × AreCounts n.node.journal n.counts.items × (1 ≤ length n.counts.items) };
 }
 
 /// Whether a call of a pass may be made: the journal has room for it, and the seat isn't spent. A full journal is marked in the pass.
@@ -78,7 +86,7 @@ fn admit(node: &Node, pass: &mut Pass) -> Result<(), LockFault>
 }
 
 /// Who makes the next call: a caller, under the next stamp of its seat, which isn't spent, and with the number that the counts tell.
-fn next_by(stamps: &Stamps, seat: &mut StampSeat, counts: &[u64], caller: u32) -> By
+pub(crate) fn next_by(stamps: &Stamps, seat: &mut StampSeat, counts: &[u64], caller: u32) -> By
     requires of { seat.old.of_table ≡ stamps.now }
     requires left { is_spent seat.old ≡ false }
     ensures caller { result.caller ≡ caller }
@@ -113,14 +121,18 @@ impl<P: Drop> LockedNode<P> {
         requires turn { chooser.turn ≡ 0 }
         ensures node { IfOk result (λ n. (n.node.own ≡ own.word) × (n.node.boot ≡ boot) × (n.node.journal ≡ [])) }
         ensures chooser { IfOk result (λ n. n.chooser ≡ chooser) }
-        ensures empty { IfOk result (λ n. (n.heard ≡ []) × (n.out ≡ no_frames) × (n.passes ≡ [])) }
+        ensures empty { IfOk result (λ n. (n.heard ≡ []) × (n.out ≡ no_frames) × (n.places ≡ []) ×
+            (n.passes ≡ [])) }
     {
+        let mut counts = Vec::new(alloc);
+        counts.push(0)?;
         Ok(LockedNode {
             node: Node::new(alloc, own, boot)?,
             chooser,
             heard: Vec::new(alloc),
             out: Outbox::new(alloc),
-            counts: Vec::new(alloc),
+            counts,
+            places: Vec::new(alloc),
             passes: Vec::new(alloc),
         })
     }
@@ -128,7 +140,8 @@ impl<P: Drop> LockedNode<P> {
 
 impl<P> LockedNode<P> {
     /// Its journal tells what the node is: contacts and links, sockets, names and subscriptions. The calls of each caller are counted from 0 in
-    /// it, each of its steps can be made again, and the arrivals in it are those of the frames that are kept. It does nothing.
+    /// it, each of its steps can be made again, and the arrivals in it are those of the frames that are kept. Just the sockets have an inbox, and
+    /// what was received from a port was offered to its inbox in that order, but for one message that may stand by. It does nothing.
     pub fn told(&self)
         ensures { IsWellKept self.now }
     {
@@ -154,6 +167,13 @@ impl<P> LockedNode<P> {
         ensures { result.now ≡ self.now.heard }
     {
         self.heard.as_slice()
+    }
+
+    /// The places of its sockets' inboxes, in the order in which the sockets were made.
+    pub fn places(&self) -> &[Place]
+        ensures { result.now ≡ self.now.places }
+    {
+        self.places.as_slice()
     }
 
     /// The passes that came back to it; none while it is behind its lock.
@@ -191,13 +211,8 @@ impl<P> LockedNode<P> {
     }
 
     /// A frame arrives on a bearer as the next call of the pass's caller, under the number of frames that arrived before. It is kept behind
-    /// those, and the arrival stands in the pass, as the journal keeps it.
-    ///
-    /// # Errors
-    ///
-    /// JournalFull exactly where the journal has no room for a call, which is marked in the pass; else Spent exactly where the seat is spent;
-    /// else NoMemory, where the seat may have drawn a stamp. Nothing else is changed.
-    pub fn arrive(
+    /// those, and the arrival stands in the pass, as the journal keeps it. No message is moved.
+    fn hear(
         &mut self,
         alloc: Global,
         stamps: &Stamps,
@@ -207,7 +222,7 @@ impl<P> LockedNode<P> {
     ) -> Result<Arrival, LockFault>
         requires seat { pass.old.seat.of_table ≡ stamps.now }
         requires bearer { bearer ≤ 1 }
-        ensures { ArrivalSections self.old pass.old bearer frame.now result self.new pass.new }
+        ensures { HearsAlone self.old pass.old bearer frame.now result self.new pass.new }
     {
         admit(&self.node, pass)?;
         let kept = Bytes::from_slice(alloc, frame)?;
@@ -231,13 +246,9 @@ impl<P> LockedNode<P> {
 }
 
 impl<P: Pick> LockedNode<P> {
-    /// Performs a call as the next one of the pass's caller. The call stands in the pass with its stamp and its answer, as the journal keeps it.
-    ///
-    /// # Errors
-    ///
-    /// JournalFull exactly where the journal has no room for a call, which is marked in the pass; else Spent exactly where the seat is spent;
-    /// else NoMemory, where the seat may have drawn a stamp. Nothing else is changed.
-    pub fn perform(
+    /// Performs a call as the next one of the pass's caller, and it stands in the pass, with its answer as the journal keeps it. A socket that
+    /// was made has an inbox then, and one that was closed has none. No message is moved.
+    fn make(
         &mut self,
         alloc: Global,
         stamps: &Stamps,
@@ -246,22 +257,82 @@ impl<P: Pick> LockedNode<P> {
     ) -> Result<Answer, LockFault>
         requires seat { pass.old.seat.of_table ≡ stamps.now }
         requires can { CanPerform call }
-        ensures { Sections P.gives self.old pass.old call result self.new pass.new }
+        requires locked { is_receive call ≡ false }
+        ensures { MakesAlone P.gives self.old pass.old call result self.new pass.new }
     {
         admit(&self.node, pass)?;
         let note = copy_call(&call)?;
+        let inbox = inbox_for(alloc, &note)?;
         make_place(&mut self.counts, pass.caller)?;
+        self.places.reserve(1)?;
+        pass.takers.reserve(1)?;
         pass.made.reserve(1)?;
         let by = next_by(stamps, &mut pass.seat, self.counts.as_slice(), pass.caller);
         let answer = self
             .node
             .perform(alloc, by, call, &mut self.chooser, &mut self.out)?;
         count_call(&mut self.counts, by.caller);
+        let kept = kept_answer(&answer);
+        follow(&mut self.places, &mut pass.takers, inbox, &note, &kept);
         pass.made.push_reserved(MadeCall {
             stamp: by.stamp,
             call: note,
-            answer: kept_answer(&answer),
+            answer: kept,
         });
+        Ok(answer)
+    }
+
+    /// A frame arrives on a bearer as the next call of the pass's caller, under the number of frames that arrived before. It is kept behind
+    /// those, and the arrival stands in the pass, as the journal keeps it. Then messages move to the inboxes.
+    ///
+    /// # Errors
+    ///
+    /// JournalFull exactly where the journal has no room for a call, which is marked in the pass; else Spent exactly where the seat is spent;
+    /// else NoMemory, where the seat may have drawn a stamp. Nothing else is changed.
+    pub fn arrive<R: Wait>(
+        &mut self,
+        rt: &R,
+        alloc: Global,
+        stamps: &Stamps,
+        pass: &mut Pass,
+        bearer: u8,
+        frame: &[u8],
+    ) -> Result<Arrival, LockFault>
+        requires seat { pass.old.seat.of_table ≡ stamps.now }
+        requires bearer { bearer ≤ 1 }
+        ensures section { ArrivalSections self.old pass.old bearer frame.now result self.new pass.new }
+        ensures told { ArrivalCalls pass.old bearer result pass.new }
+        ensures same { IsOfSameCaller pass.old pass.new }
+    {
+        let arrival = self.hear(alloc, stamps, pass, bearer, frame)?;
+        self.move_all(rt, alloc, stamps, pass);
+        Ok(arrival)
+    }
+
+    /// Performs a call, any but a receive, as the next one of the pass's caller, and it stands in the pass, with its answer as the journal keeps
+    /// it. A socket that was made has an inbox then, whose taker the pass holds. Then messages move to the inboxes.
+    ///
+    /// # Errors
+    ///
+    /// JournalFull exactly where the journal has no room for a call, which is marked in the pass; else Spent exactly where the seat is spent;
+    /// else NoMemory, where the seat may have drawn a stamp. Nothing else is changed.
+    pub fn perform<R: Wait>(
+        &mut self,
+        rt: &R,
+        alloc: Global,
+        stamps: &Stamps,
+        pass: &mut Pass,
+        call: EventNote,
+    ) -> Result<Answer, LockFault>
+        requires seat { pass.old.seat.of_table ≡ stamps.now }
+        requires can { CanPerform call }
+        requires locked { is_receive call ≡ false }
+        ensures section { Sections P.gives self.old pass.old call result self.new pass.new }
+        ensures told { Calls pass.old call result pass.new }
+        ensures same { IsOfSameCaller pass.old pass.new }
+    {
+        let answer = self.make(alloc, stamps, pass, call)?;
+        self.move_all(rt, alloc, stamps, pass);
         Ok(answer)
     }
 }

@@ -5,9 +5,11 @@ ghost use Rattle.tipc_outside.specs.Frames.{frames_leaving};
 ghost use Rattle.tipc_types.specs.Address.{IsNodeWord};
 ghost use Rattle.tipc_node.specs.Calls.{CanPerform};
 ghost use Rattle.tipc_node_lock.specs.Locks.{ArrivalCalls, Calls, IsPassOf, is_one_per_caller};
-ghost use Rattle.tipc_node_lock.specs.Passes.{IsOfSameCaller, passes_from, with_handed, with_seen};
+ghost use Rattle.tipc_node_lock.specs.Passes.{IsOfSameCaller, ReceivesAt, passes_from, with_handed, with_seen};
+ghost use Rattle.tipc_node_lock.specs.Sections.{is_receive};
 
 use crate::faults::LockFault;
+use crate::inboxes::NoSocket;
 use crate::locked::LockedNode;
 use crate::passes::{Pass, is_one_per_caller, new_passes};
 use std::alloc::Global;
@@ -16,7 +18,7 @@ use std::sync::{Mutex, Wait};
 use tipc_outside::Outbox;
 use tipc_pick::{Chooser, Pick};
 use tipc_stamp::{StampSeat, Stamps};
-use tipc_types::{Addr, Answer, Arrival, EventNote, NoMemory};
+use tipc_types::{Addr, Answer, Arrival, EventNote, Message, NoMemory};
 
 /// A node that several threads call, each with a pass of its own: their calls are made one after the other.
 ///
@@ -77,35 +79,31 @@ impl<'s, P: Drop> NodeLock<'s, P> {
 }
 
 impl<'s, P> NodeLock<'s, P> {
-    /// A frame arrives on a bearer as the next call of the pass's caller. It waits for its turn, and makes the section.
-    ///
-    /// # Errors
-    ///
-    /// As of the section: JournalFull is marked in the pass, Spent comes exactly where its seat is spent, else NoMemory.
-    pub fn arrive<R: Wait>(
-        &self,
-        rt: &R,
-        alloc: Global,
-        pass: &mut Pass,
-        bearer: u8,
-        frame: &[u8],
-    ) -> Result<Arrival, LockFault>
-        requires pass { IsPassOf self.now pass.old }
-        requires bearer { bearer ≤ 1 }
-        ensures made { ArrivalCalls pass.old bearer result pass.new }
-        ensures same { IsOfSameCaller pass.old pass.new }
-    {
-        self.lock
-            .lock(rt)
-            .arrive(alloc, self.stamps, pass, bearer, frame)
-    }
-
     /// Gives the frames that are to leave to the caller of the pass, which counts them. It waits for its turn, and is no call of the node.
     pub fn outgoing<R: Wait>(&self, rt: &R, alloc: Global, pass: &mut Pass) -> Outbox
         requires pass { IsPassOf self.now pass.old }
         ensures { pass.new ≡ with_handed pass.old (length (frames_leaving result)) }
     {
         self.lock.lock(rt).outgoing(alloc, pass)
+    }
+
+    /// Takes the first message that is held in the inbox of a port, whose socket the pass made: None only where none was held at some moment of
+    /// the call. It takes no lock, draws no stamp and is no call of the node; it may wait for a call that gives to the inbox.
+    ///
+    /// # Errors
+    ///
+    /// NoSocket exactly where the pass doesn't hold the taker of that inbox.
+    pub fn receive<R: Wait>(
+        &self,
+        rt: &R,
+        pass: &mut Pass,
+        port: u32,
+    ) -> Result<Option<Message>, NoSocket>
+        requires pass { IsPassOf self.now pass.old }
+        ensures received { ReceivesAt pass.old port result pass.new }
+        ensures same { IsOfSameCaller pass.old pass.new }
+    {
+        pass.receive(rt, port)
     }
 
     /// The least stamp that isn't drawn yet: it is above those that the pass drew, and not below what it saw before. It waits for nobody.
@@ -140,7 +138,30 @@ impl<'s, P> NodeLock<'s, P> {
 }
 
 impl<'s, P: Pick> NodeLock<'s, P> {
-    /// Performs a call as the next one of the pass's caller. It waits for its turn, and makes the section.
+    /// A frame arrives on a bearer as the next call of the pass's caller. It waits for its turn, and makes the section.
+    ///
+    /// # Errors
+    ///
+    /// As of the section: JournalFull is marked in the pass, Spent comes exactly where its seat is spent, else NoMemory.
+    pub fn arrive<R: Wait>(
+        &self,
+        rt: &R,
+        alloc: Global,
+        pass: &mut Pass,
+        bearer: u8,
+        frame: &[u8],
+    ) -> Result<Arrival, LockFault>
+        requires pass { IsPassOf self.now pass.old }
+        requires bearer { bearer ≤ 1 }
+        ensures made { ArrivalCalls pass.old bearer result pass.new }
+        ensures same { IsOfSameCaller pass.old pass.new }
+    {
+        self.lock
+            .lock(rt)
+            .arrive(rt, alloc, self.stamps, pass, bearer, frame)
+    }
+
+    /// Performs a call as the next one of the pass's caller: any but a receive. It waits for its turn, and makes the section.
     ///
     /// # Errors
     ///
@@ -154,9 +175,12 @@ impl<'s, P: Pick> NodeLock<'s, P> {
     ) -> Result<Answer, LockFault>
         requires pass { IsPassOf self.now pass.old }
         requires can { CanPerform call }
+        requires locked { is_receive call ≡ false }
         ensures made { Calls pass.old call result pass.new }
         ensures same { IsOfSameCaller pass.old pass.new }
     {
-        self.lock.lock(rt).perform(alloc, self.stamps, pass, call)
+        self.lock
+            .lock(rt)
+            .perform(rt, alloc, self.stamps, pass, call)
     }
 }

@@ -3,13 +3,15 @@
 ghost use Rattle.std.specs.Prelude.{◌≡◌, ◌<◌, ◌≤◌, ◌^◌, length, IfOk};
 ghost use Rattle.std.specs.List.{list_all};
 ghost use Rattle.tipc_node_lock.specs.Locks.{has_one_pass, is_one_per_caller, is_sole_pass};
-ghost use Rattle.tipc_node_lock.specs.Passes.{marked_full, new_pass, passes_from, with_handed};
+ghost use Rattle.tipc_node_lock.specs.Passes.{IsOfSameCaller, has_taker, marked_full, marked_short, new_pass, passes_from, with_handed, ReceivesAt};
 
+use crate::inboxes::{NoSocket, PortTaker, taker_position};
 use std::alloc::Global;
 use std::collections::VecDeque;
 use std::marker::Model;
+use std::sync::Wait;
 use tipc_stamp::StampSeat;
-use tipc_types::{Addr, Answer, EventNote, NoMemory};
+use tipc_types::{Addr, Answer, EventNote, Message, NoMemory};
 
 /// A call that a caller made: its stamp, the call, and its answer as the node's journal keeps it. (This project's profile.)
 #[derive(Drop)]
@@ -22,10 +24,11 @@ pub struct MadeCall {
     pub answer: Answer,
 }
 
-/// What one caller calls a locked node with. It may go to another thread.
+/// What one caller calls a locked node with. It may go to another thread. It holds the takers of just the ports whose sockets it made and
+/// didn't close since.
 ///
 /// Contracts see its seat, its node's address, the caller's number there, from 1 on, the calls that it made, whether it was told that the
-/// journal is full, and how many frames it was handed.
+/// journal is full, whether memory ran out when it moved messages, how many frames it was handed, and its takers.
 #[derive(Drop)]
 pub struct Pass {
     pub(crate) seat: StampSeat,
@@ -33,12 +36,14 @@ pub struct Pass {
     pub(crate) caller: u32,
     pub(crate) made: Vec<MadeCall>,
     full: bool,
+    short: bool,
     handed: u64,
+    pub(crate) takers: Vec<PortTaker>,
 }
 
 impl Model for Pass {
     ghost use Rattle.std.specs.Prelude.{◌≤◌};
-    ghost use Rattle.tipc_node_lock.specs.Passes.{PassState};
+    ghost use Rattle.tipc_node_lock.specs.Passes.{HoldsTakers, PassState};
 
     ghost Value = { PassState };
 
@@ -48,10 +53,12 @@ impl Model for Pass {
       caller = p.caller;
       made = p.made.items;
       full = p.full;
+      short = p.short;
       handed = p.handed;
+      takers = p.takers.items;
     } };
 
-    ghost invariant = { λ p. 1 ≤ p.caller };
+    ghost invariant = { λ p. (1 ≤ p.caller) × HoldsTakers p.made.items p.takers.items };
 }
 
 impl Pass {
@@ -66,7 +73,9 @@ impl Pass {
             caller,
             made: Vec::new(alloc),
             full: false,
+            short: false,
             handed: 0,
+            takers: Vec::new(alloc),
         }
     }
 
@@ -99,6 +108,20 @@ impl Pass {
         self.full
     }
 
+    /// Whether memory ran out in one of its calls when messages were to be moved.
+    pub fn is_short(&self) -> bool
+        ensures { result ≡ self.now.short }
+    {
+        self.short
+    }
+
+    /// Whether it holds the taker of a port's inbox.
+    pub fn has_taker(&self, port: u32) -> bool
+        ensures { result ≡ has_taker self.now port }
+    {
+        self.takers.iter().any(|taker| taker.port == port)
+    }
+
     /// How many frames it was handed, 2^64 - 1 at most.
     pub fn handed(&self) -> u64
         ensures { result ≡ self.now.handed }
@@ -111,6 +134,32 @@ impl Pass {
         ensures { self.new ≡ marked_full self.old }
     {
         self.full = true;
+    }
+
+    /// Marks that memory ran out when messages were to be moved.
+    pub(crate) fn run_short(&mut self)
+        ensures { self.new ≡ marked_short self.old }
+    {
+        self.short = true;
+    }
+
+    /// Takes the first message that is held in a port's inbox. This may wait for the thread that gives.
+    ///
+    /// # Errors
+    ///
+    /// Exactly where it doesn't hold the taker of that inbox.
+    pub(crate) fn receive<R: Wait>(
+        &mut self,
+        rt: &R,
+        port: u32,
+    ) -> Result<Option<Message>, NoSocket>
+        ensures received { ReceivesAt self.old port result self.new }
+        ensures same { IsOfSameCaller self.old self.new }
+    {
+        match taker_position(self.takers.as_slice(), port) {
+            Some(place) => Ok(self.takers[place].take(rt)),
+            None => Err(NoSocket),
+        }
     }
 
     /// Counts frames that it was handed.

@@ -1,37 +1,17 @@
-use Rattle.std.proofs.Common.{◌≡◌, ℕ, List, length, refl, ap, sym, ◌∙◌}
-use Rattle.std.specs.Prelude.{slice_index_or}
-use Rattle.tipc_node_lock.proofs.Sectioned.{call_of_same, counts_after, counts_same, few_calls, kept_performing, made_more, makes_one_call, pass_made}
+use Rattle.std.proofs.Common.{ap, ◌∙◌}
+use Rattle.tipc_node_lock.specs.Passes.{PassState}
+use Rattle.tipc_node_lock.proofs.Telling.{made_same, made_told, moves_behind}
 use Rattle.tipc_node_lock.proofs.locked.LockedNode.perform.Goals as goal
 
-pub count_call-requires-clause-few : goal.count_call-requires-clause-few
-count_call-requires-clause-few g c =
-    few_calls _ _ c.next_by-by.result.caller (counts_same _ _ _ c.self.invariant.1 c.in_ok-make_place.ensures.same) c.in_ok-admit.ensures.ok.0
+pub move_all-requires : goal.move_all-requires
+move_all-requires g c = record { seat = ap (λ (p : PassState). p.seat.of_table) c.in_ok-answer.ensures.records.made ∙ c.requires.seat }
 
-pub invariant_of-self-2 : goal.invariant_of-self-2
-invariant_of-self-2 g c =
-    let by = c.next_by-by.result in
-    let places = c.in_ok-make_place.ensures.same in
-    let counts = counts_same _ _ _ c.self.invariant.1 places in
-    let done = c.in_ok-answer.ensures in
-    let whose = c.next_by-by.ensures.caller in
-    let number : by.call ≡ length _ =
-    c.next_by-by.ensures.call ∙ ap (λ (xs : List ℕ). slice_index_or xs c.pass.inside.caller 0) c.as_slice.ensures.value
-    ∙ ap (λ (i : ℕ). slice_index_or c.make_place.new.counts.items i 0) (sym whose) ∙ counts.each by.caller in (
-      kept_performing _ _ by c.args.call c.in_ok-answer.answer c.self.invariant.0 number c.requires.can done.ok done.turns refl,
-      counts_after _ _ done.ok.turn counts c.count_call.ensures.one c.count_call.ensures.others,
-    )
+pub returns-clause-section : goal.returns-clause-section
+returns-clause-section g c =
+    (c.make.new.self, c.make.new.pass, c.in_ok-answer.ensures, moves_behind _ _ _ _ c.move_all.ensures.moves c.move_all.ensures.rests)
 
-pub returns : goal.returns
-returns g c =
-    let by = c.next_by-by.result in
-    let admitted = c.in_ok-admit.ensures.ok in
-    let counts = counts_same _ _ _ c.self.invariant.1 c.in_ok-make_place.ensures.same in
-    let done = c.in_ok-answer.ensures in
-    let number : by.call ≡ length _ =
-    c.next_by-by.ensures.call ∙ ap (λ (xs : List ℕ). slice_index_or xs c.pass.inside.caller 0) c.as_slice.ensures.value ∙ counts.each c.pass.inside.caller in
-    call_of_same c.self.view_is (c.pass.view_is ∙ admitted.2)
-    (makes_one_call _ _ _ _ _ by c.args.call c.in_ok-answer.answer c.self.invariant.0 c.next_by-by.ensures.caller number done.ok done.picked done.turns refl
-    admitted.0 c.next_by-by.ensures.next
-    (pass_made _ _ _ by.stamp c.args.call _ c.next_by-by.ensures.drew
-    (made_more _ _ _ by.stamp c.args.call _ _ _ c.push_reserved.ensures.items c.in_ok-reserve.ensures.items c.in_ok-note.ensures c.kept_answer.ensures))
-    refl)
+pub returns-clause-told : goal.returns-clause-told
+returns-clause-told g c = made_told _ _ _ _ _ _ _ _ _ c.in_ok-answer.ensures.records c.move_all.ensures.moves
+
+pub returns-clause-same : goal.returns-clause-same
+returns-clause-same g c = made_same _ _ _ _ _ _ _ _ _ c.in_ok-answer.ensures.records c.move_all.ensures.moves
