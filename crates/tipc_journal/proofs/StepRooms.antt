@@ -1,5 +1,5 @@
 -- The room of a journal for a whole step, and the journal while the step is recorded.
-use Rattle.std.proofs.Common.{◌≡◌, ◌+◌, ◌-◌, ◌≤◌, true, List, [], ◌∷◌, ◌++◌, length, ap, length-append, sum_by, arith}
+use Rattle.std.proofs.Common.{◌≡◌, ◌+◌, ◌-◌, ◌≤◌, ℕ, true, List, [], ◌∷◌, ◌++◌, length, ap, length-append, sum_by, arith}
 use Rattle.std.proofs.lemmas.Bool.Decides.{nat_tests}
 use Rattle.std.proofs.lemmas.List.Sums.{sum_by-append, sum_by-cons}
 use Rattle.tipc_journal.specs.declared.entries.Entry.{Entry}
@@ -70,3 +70,11 @@ last_room now old first last inside small none empty under =
     let count = counted now [] old first inside under in
     let weight = weighed now [] old first inside under none in
     (omega arith, omega (arith, empty))
+
+-- it has room for one more entry without message bytes, where a few of that kind were added already
+pub short_room : (old now : List Entry) (next : Entry) (added : ℕ) → has_journal_room old ≡ true → added ≤ 2 → length now ≡ length old + added → message_bytes now ≡ message_bytes old → entry_bytes next ≡ 0 → HasRoom now next
+short_room old now next added has few long weight none =
+    let room = room_of old has in
+    let free = room.free in
+    let bytes = room.bytes in
+    (omega (arith, long, few), omega (arith, weight, none))

@@ -1,22 +1,36 @@
 -- The room of a journal: its limits of entries and of message bytes.
-use Rattle.std.specs.Prelude.{◌+◌, ◌-◌, ◌*◌, ◌<◌, ◌≤◌, ◌⊎◌, ℕ, List, [], ◌∷◌, ◌++◌, length, max, sum_by, Bool, nat_le, ◌&&◌}
+use Rattle.std.specs.Prelude.{◌+◌, ◌-◌, ◌*◌, ◌<◌, ◌≤◌, ◌⊎◌, ℕ, List, [], ◌∷◌, ◌++◌, length, max, sum_by, Bool, nat_le, nat_lt, ◌&&◌, if◌then◌else◌}
 use Rattle.tipc_types.specs.declared.message_forms.Message.{Message}
 use Rattle.tipc_types.specs.declared.message_forms.Message.TheVariants.{Payload, Items}
 use Rattle.tipc_journal.specs.declared.entries.Entry.{Entry}
 use Rattle.tipc_journal.specs.declared.entries.Entry.TheVariants.{Accepted, Delivered}
 
--- a journal: its entries in order, and how many appends will find their memory
+-- a journal: its entries in order, how many appends will find their memory, and for how many short steps, of three entries at most, memory is
+-- kept apart
 pub record JournalState : Type 0 where
   pub entries : List Entry
   pub spare : ℕ
+  pub kept : ℕ
 
--- the journal with one more entry at the end, which took one of the places kept for it
+-- the journal with one more entry at the end, which took one of the places that were spare
 abbrev pub appended : JournalState → Entry → JournalState
-appended j entry = record { entries = j.entries ++ entry ∷ []; spare = j.spare - 1 }
+appended j entry = record j { entries = j.entries ++ entry ∷ []; spare = j.spare - 1 }
 
--- the journal with at least so many places kept
+-- the journal with at least so many places spare
 abbrev pub reserved : JournalState → ℕ → JournalState
-reserved j places = record { entries = j.entries; spare = max j.spare places }
+reserved j places = record j { spare = max j.spare places }
+
+-- the journal with memory kept apart for at least so many short steps
+abbrev pub keeping : JournalState → ℕ → JournalState
+keeping j steps = record j { kept = max j.kept steps }
+
+-- the journal where the places of one short step became spare, if one was kept
+abbrev pub with_one_released : JournalState → JournalState
+with_one_released j = record j { spare = if nat_lt 0 j.kept then j.spare + 3 else j.spare; kept = j.kept - 1 }
+
+-- a short step will find its memory, by a step that was kept or by places that are spare
+abbrev pub IsReady : JournalState → Type 0
+IsReady j = 3 ≤ (with_one_released j).spare
 
 -- the bytes that a message counts for: those of its body, and 20 for each item
 abbrev pub counted_bytes : Message → ℕ

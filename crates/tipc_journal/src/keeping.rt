@@ -1,10 +1,10 @@
 //! The journal, its limits, and how an entry is appended.
 
-ghost use Rattle.std.specs.Prelude.{◌≡◌, ◌==◌, ◌+◌, ◌-◌, ◌^◌, ◌<◌, ◌≤◌, ◌↔◌, [], length, min, IsOk, OnErr, OnOk, IsTrue};
-ghost use Rattle.tipc_journal.specs.Room.{JournalState, appended, reserved, counted_bytes, entry_bytes, message_bytes, HasRoom, HasNoRoom};
+ghost use Rattle.std.specs.Prelude.{◌≡◌, ◌==◌, ◌+◌, ◌-◌, ◌^◌, ◌<◌, ◌≤◌, ◌↔◌, [], length, min, IsOk, OnErr, OnOk, IsTrue, vec_len, vec_capacity, ◌*◌};
+ghost use Rattle.tipc_journal.specs.Room.{JournalState, appended, keeping, reserved, with_one_released, counted_bytes, entry_bytes, message_bytes, HasRoom, HasNoRoom};
 
 use crate::entries::Entry;
-use std::alloc::{AllocFailed, Global};
+use std::alloc::Global;
 use std::marker::Model;
 use tipc_types::{Message, NoMemory};
 
@@ -14,26 +14,31 @@ pub const MOST_ENTRIES: u64 = 1_048_576;
 /// The most message bytes of a journal.
 pub const MOST_MESSAGE_BYTES: u64 = 67_108_864;
 
+/// The entries of a short step: its call, one entry inside at most, and its answer.
+pub const SHORT_STEP: u64 = 3;
+
 /// What a node did in one boot: entries in order, which are never changed or removed.
 /// (This project's profile.)
 ///
-/// Contracts see the entries, and `spare`: how many appends will find their memory.
+/// Contracts see the entries, `spare`: how many appends will find their memory, and `kept`: for how many short steps, of
+/// three entries at most, memory is kept apart, which no other append takes.
 #[derive(Drop)]
 pub struct Journal {
     stored: Vec<Entry>,
-    promised: u64,
+    spare: u64,
+    kept: u64,
     bytes: u64,
 }
 
 impl Model for Journal {
-    ghost use Rattle.std.specs.Prelude.{◌≡◌, ◌+◌, ◌≤◌, vec_len, vec_capacity};
+    ghost use Rattle.std.specs.Prelude.{◌≡◌, ◌+◌, ◌*◌, ◌≤◌, vec_len, vec_capacity};
     ghost use Rattle.tipc_journal.specs.Room.{JournalState, message_bytes};
 
     ghost Value = { JournalState };
 
-    ghost view = { λ j. record { entries = j.stored.items; spare = j.promised } };
+    ghost view = { λ j. record { entries = j.stored.items; spare = j.spare; kept = j.kept } };
 
-    ghost invariant = { λ j. (vec_len j.stored + j.promised ≤ vec_capacity j.stored)
+    ghost invariant = { λ j. (vec_len j.stored + j.spare + 3 * j.kept ≤ vec_capacity j.stored)
         × (j.bytes ≡ message_bytes j.stored.items)
         × (j.bytes ≤ 67108864)
         × (vec_len j.stored ≤ 1048576) };
@@ -48,25 +53,44 @@ pub enum JournalFault {
     NoMemory,
 }
 
-impl<T: Drop> From<AllocFailed<T>> for JournalFault {
+impl From<NoMemory> for JournalFault {
     ghost use Rattle.tipc_journal.specs.declared.keeping.JournalFault.{JournalFault};
 
     ghost from_gives = { λ _ e. e ≡ JournalFault.NoMemory };
 
-    fn from(_error: AllocFailed<T>) -> JournalFault {
+    fn from(_error: NoMemory) -> JournalFault {
         JournalFault::NoMemory
     }
+}
+
+/// Makes room in memory for so many entries behind these, beside what is kept for so many short steps.
+fn make_room(stored: &mut Vec<Entry>, kept: u64, entries: u64) -> Result<(), NoMemory>
+    requires { vec_len stored.old + 3 * kept ≤ vec_capacity stored.old }
+    ensures same { stored.new.items ≡ stored.old.items }
+    ensures more { vec_capacity stored.old ≤ vec_capacity stored.new }
+    ensures room { OnOk result (vec_len stored.new + entries + 3 * kept ≤ vec_capacity stored.new) }
+    ensures succeeds { vec_len stored.old + entries + 3 * kept ≤ vec_capacity stored.old → IsOk result }
+{
+    let free = (stored.capacity() - stored.len()) as u64;
+    let kept = SHORT_STEP * kept;
+    if entries <= free - kept {
+        return Ok(());
+    }
+    let places = kept.checked_add(entries).ok_or(NoMemory)?;
+    stored.reserve(places as usize)?;
+    Ok(())
 }
 
 impl Journal {
     /// A journal without entries.
     #[tactic(auto, using(crate::proofs::RoomLaws::message_bytes_nil))]
     pub fn new(alloc: Global) -> Journal
-        ensures { result ≡ record { entries = []; spare = 0 } }
+        ensures { result ≡ record { entries = []; spare = 0; kept = 0 } }
     {
         Journal {
             stored: Vec::new(alloc),
-            promised: 0,
+            spare: 0,
+            kept: 0,
             bytes: 0,
         }
     }
@@ -90,8 +114,9 @@ impl Journal {
         if self.stored.len() as u64 >= MOST_ENTRIES || size > MOST_MESSAGE_BYTES - self.bytes {
             return Err(JournalFault::Full);
         }
-        self.stored.push(entry)?;
-        self.promised = self.promised.saturating_sub(1);
+        make_room(&mut self.stored, self.kept, 1)?;
+        self.stored.push_reserved(entry);
+        self.spare = self.spare.saturating_sub(1);
         self.bytes += size;
         Ok(())
     }
@@ -115,25 +140,57 @@ impl Journal {
     {
         let size = entry_bytes(&entry);
         self.stored.push_reserved(entry);
-        self.promised -= 1;
+        self.spare -= 1;
         self.bytes += size;
     }
 
-    /// Makes `spare` at least that many.
+    /// Makes `spare` at least that many. It doesn't fail where they are spare already.
     pub fn reserve(&mut self, entries: u64) -> Result<(), NoMemory>
         ensures ok { OnOk result (self.new ≡ reserved self.old entries) }
+        ensures succeeds { entries ≤ self.old.spare → IsOk result }
         ensures err { OnErr result (self.new ≡ self.old) }
     {
-        self.stored.reserve(entries as usize)?;
-        self.promised = self.promised.max(entries);
+        make_room(&mut self.stored, self.kept, entries)?;
+        self.spare = self.spare.max(entries);
         Ok(())
+    }
+
+    /// Keeps memory apart for at least that many short steps.
+    pub fn keep(&mut self, steps: u64) -> Result<(), NoMemory>
+        ensures ok { OnOk result (self.new ≡ keeping self.old steps) }
+        ensures err { OnErr result (self.new ≡ self.old) }
+    {
+        if steps > self.kept {
+            let places = steps.checked_mul(SHORT_STEP).ok_or(NoMemory)?;
+            let places = places.checked_add(self.spare).ok_or(NoMemory)?;
+            self.stored.reserve(places as usize)?;
+            self.kept = steps;
+        }
+        Ok(())
+    }
+
+    /// Makes the places of one short step spare, where one is kept.
+    pub fn release(&mut self)
+        ensures { self.new ≡ with_one_released self.old }
+    {
+        if self.kept > 0 {
+            self.kept -= 1;
+            self.spare += SHORT_STEP;
+        }
     }
 
     /// How many appends will find their memory.
     pub fn spare(&self) -> u64
         ensures { result ≡ self.now.spare }
     {
-        self.promised
+        self.spare
+    }
+
+    /// For how many short steps memory is kept apart.
+    pub fn kept(&self) -> u64
+        ensures { result ≡ self.now.kept }
+    {
+        self.kept
     }
 
     /// The entries, the first one first.

@@ -8,7 +8,9 @@ mod keeping;
 mod laws;
 
 pub use entries::{Arrivals, Entry, PortList};
-pub use keeping::{Journal, JournalFault, MOST_ENTRIES, MOST_MESSAGE_BYTES, entry_bytes};
+pub use keeping::{
+    Journal, JournalFault, MOST_ENTRIES, MOST_MESSAGE_BYTES, SHORT_STEP, entry_bytes,
+};
 pub use laws::{
     accepted_follows, bytes_add_up, contact_follows, counts_follow, delivered_follows,
     fates_follow, learned_follows, licences_follow, links_follow, live_follows,

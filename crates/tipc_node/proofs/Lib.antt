@@ -7,3 +7,4 @@ pub mod journal
 pub mod names
 pub mod Kept
 pub mod Keeping
+pub mod Promising

@@ -29,3 +29,4 @@ pub mod Surely
 pub mod Taking
 pub mod Tellings
 pub mod Wayfaring
+pub mod Withdrawing

@@ -15,7 +15,7 @@ use Rattle.tipc_journal.specs.Licensed.{IsPickedOf, next_answer}
 use Rattle.tipc_journal.specs.Refusals.{longest_body}
 use Rattle.tipc_name_dist.specs.Items.{telling}
 use Rattle.tipc_sockets.specs.Publishing.{own_publication}
-use Rattle.tipc_sockets.specs.SocketTables.{has_port, with_socket}
+use Rattle.tipc_sockets.specs.SocketTables.{SocketTable, has_port, with_socket}
 use Rattle.tipc_node.specs.declared.neighbours.Upkeep.{Upkeep}
 use Rattle.tipc_node.specs.declared.neighbours.Upkeep.TheVariants as upkeep
 use Rattle.tipc_node.specs.Discovery.{AreFound, next_tick, upkeep_frames}
@@ -127,6 +127,14 @@ CanPerform Tick = Unit {0}
 CanPerform (Cut bearer) = bearer ≤ 1
 CanPerform (Mend bearer) = bearer ≤ 1
 CanPerform other = ⊥
+
+-- a call that takes no memory where it was promised: it takes out what waits, or a subscription, or a publication of which no peer is told
+abbrev pub TakesNoMemory : SocketTable → EventNote → Type 0
+TakesNoMemory s (Receive port) = Unit {0}
+TakesNoMemory s (Cancel number) = Unit {0}
+TakesNoMemory s (NextEvent number) = Unit {0}
+TakesNoMemory s (Withdraw port key) = told_withdrawal s port key ≡ []
+TakesNoMemory s other = ⊥
 
 -- the range of a publication has instances, as each service range
 abbrev pub HasInstances : EventNote → Type 0

@@ -1,5 +1,5 @@
 -- A node, and what each call makes of it.
-use Rattle.std.specs.Prelude.{ℕ, ◌+◌, ◌-◌, ◌==◌, Bool, true, false, List, [], ◌∷◌, ◌++◌, Option, Some, None, drop, length, map, nat_le, nat_lt, not, is_some, option_and_then, slice_index_or, sum_by, ◌&&◌, if◌then◌else◌}
+use Rattle.std.specs.Prelude.{ℕ, ◌+◌, ◌-◌, ◌==◌, Bool, true, false, List, [], ◌∷◌, ◌++◌, Option, Some, None, drop, length, map, max, nat_le, nat_lt, not, is_some, option_and_then, slice_index_or, sum_by, ◌&&◌, if◌then◌else◌}
 use Rattle.std.specs.List.{flat_map}
 use Rattle.tipc_types.specs.Address.{node_word}
 use Rattle.tipc_types.specs.declared.link_words.Why.{Why}
@@ -49,7 +49,7 @@ use Rattle.tipc_node.specs.Neighbours.{Done, done, stranger}
 use Rattle.tipc_pair.specs.LinkReadings.{active_load}
 
 -- a node: its address word, its boot number, whether bearer 0 is mended and whether bearer 1 is, who was heard on which of them, the ticks
--- of this boot modulo 8, its neighbours by number, its sockets, its journal, and its broadcast link
+-- of this boot modulo 8, its neighbours by number, its sockets, its journal, its broadcast link, and how many calls were promised their memory
 pub record NodeState : Type 0 where
   pub own : ℕ
   pub boot : ℕ
@@ -60,6 +60,7 @@ pub record NodeState : Type 0 where
   pub sockets : SocketTable
   pub journal : List Entry
   pub casting : Casting
+  pub promised : ℕ
 
 -- what node n keeps of a peer
 abbrev pub neighbour_of : NodeState → ℕ → Option Neighbour
@@ -84,10 +85,14 @@ with_neighbours n xs = record n { neighbours = xs }
 abbrev pub step_of : By → EventNote → List Entry → Answer → NodeStep
 step_of by event inside answered = record { by = by; event = event; inside = inside; caller = by.caller; call = by.call; answer = answered }
 
--- a call that changes nothing else
+-- the node that promises at least so many calls their memory
+abbrev pub promising : NodeState → ℕ → NodeState
+promising n calls = record n { promised = max n.promised calls }
+
+-- a call that changes nothing else; one of the promised calls is used up, as by each that is recorded
 abbrev pub recorded : NodeState → By → EventNote → List Entry → Answer → NodeState
 recorded n by event inside answered =
-    record n { journal = n.journal ++ step_entries (step_of by event inside answered) }
+    record n { journal = n.journal ++ step_entries (step_of by event inside answered); promised = n.promised - 1 }
 
 -- what is recorded of a change of the links to a peer, or of the contact with it
 abbrev pub change_entry : ℕ → Transition → Entry

@@ -41,7 +41,12 @@ begun n = record { neighbours = n.neighbours; sockets = n.sockets; inside = [] }
 -- the node when the step is recorded
 abbrev pub concluded : NodeState → By → EventNote → Work → Answer → NodeState
 concluded n by event w answered =
-    record n { neighbours = w.neighbours; sockets = w.sockets; journal = n.journal ++ step_entries (step_of by event w.inside answered) }
+    record n {
+      neighbours = w.neighbours;
+      sockets = w.sockets;
+      journal = n.journal ++ step_entries (step_of by event w.inside answered);
+      promised = n.promised - 1;
+    }
 
 -- the work that has these parts
 abbrev pub work_of : List (Option Neighbour) → SocketTable → List Entry → Work

@@ -1,6 +1,6 @@
 //! The calls on sockets, names and subscriptions.
 
-ghost use Rattle.std.specs.Prelude.{◌≡◌, ◌∷◌, ◌≤◌, List, [], true, None, All, is_some, length, map, slice_get, sum_by, IfOk, OnErr, OnOk};
+ghost use Rattle.std.specs.Prelude.{◌≡◌, ◌∷◌, ◌<◌, ◌≤◌, List, [], true, None, All, is_some, length, map, slice_get, sum_by, IfOk, IsOk, OnErr, OnOk};
 ghost use Rattle.tipc_types.specs.declared.message_forms.Message.{Message};
 ghost use Rattle.tipc_outside.specs.Frames.{Adds};
 ghost use Rattle.tipc_outside.specs.declared.outgoing.Outgoing.{Outgoing};
@@ -13,13 +13,14 @@ ghost use Rattle.tipc_node.specs.Drafts.{own_of, with_sockets_in};
 ghost use Rattle.tipc_node.specs.Plans.{CarriesOut, names_plan};
 ghost use Rattle.tipc_journal.specs.Room.{counted_bytes, entry_bytes, has_journal_room};
 ghost use Rattle.tipc_message.specs.Wire.{IsCarried};
-ghost use Rattle.tipc_node.specs.Sockets.{first_answer, kept_answer, publication_refusal, with_names_changed, CanChangeNames};
-ghost use Rattle.tipc_node.specs.Works.{work_of};
+ghost use Rattle.tipc_node.specs.Sockets.{told_withdrawal, first_answer, kept_answer, publication_refusal, with_names_changed, CanChangeNames};
+ghost use Rattle.tipc_node.specs.Nodes.{recorded};
+ghost use Rattle.tipc_node.specs.Works.{concluded, work_of};
 
 use crate::cores::Core;
 use crate::drafts::Draft;
-use crate::steps::record;
-use crate::tellings::{crowd_refusal, telling, tellings};
+use crate::steps::{make_ready, record, record_alone, record_one};
+use crate::tellings::{crowd_refusal, is_clusterwide, telling, tellings};
 use std::alloc::Global;
 use tipc_journal::Entry;
 use tipc_name_table::MOST_PUBLICATIONS;
@@ -328,6 +329,51 @@ impl Core {
         }
     }
 
+    /// Records a call that is refused for this reason, which is given twice, and changes nothing else. It takes no memory
+    /// that was promised.
+    fn refuse_ready(
+        &mut self,
+        by: By,
+        note: EventNote,
+        kept: Answer,
+        why: Answer,
+    ) -> Result<Answer, NoMemory>
+        requires room { has_journal_room self.old.journal ≡ true }
+        requires same { kept ≡ why }
+        ensures ok { IfOk result (λ a. (a ≡ why) × (self.new ≡ recorded self.old by note [] why)) }
+        ensures succeeds { 0 < self.old.promised → IsOk result }
+        ensures err { OnErr result (self.new ≡ self.old) }
+    {
+        make_ready(&mut self.journal)?;
+        record_alone(&mut self.journal, by, note, kept);
+        Ok(why)
+    }
+
+    /// Withdraws this publication of a key at a port, of which no peer is told. It takes no memory that was promised.
+    fn withdraw_here(
+        &mut self,
+        by: By,
+        port: u32,
+        key: u32,
+        publication: Publication,
+    ) -> Result<Answer, NoMemory>
+        requires room { has_journal_room self.old.journal ≡ true }
+        requires port { has_port self.old.sockets port ≡ true }
+        requires there { published_at self.old.sockets port key ≡ Some publication }
+        ensures ok { IfOk result (λ a. (a ≡ Answer.Done) × (self.new ≡ concluded self.old by
+            (EventNote.Withdraw port key) (work_of self.old.neighbours
+            (withdrawn self.old.sockets self.old.sockets.own key) (Withdrawn publication ∷ [])) Answer.Done)) }
+        ensures succeeds { 0 < self.old.promised → IsOk result }
+        ensures err { OnErr result (self.new ≡ self.old) }
+    {
+        make_ready(&mut self.journal)?;
+        self.draft.withdraw(port, key);
+        let note = EventNote::Withdraw { port, key };
+        let inside = Entry::Withdrawn { publication };
+        record_one(&mut self.journal, by, note, inside, Answer::Done);
+        Ok(Answer::Done)
+    }
+
     /// Withdraws the publication of a key at a port, of which peers are told where it is seen in the cluster:
     /// NoSocket exactly where the port isn't there, else Unknown exactly where that key isn't live at it, else
     /// NamesCongested exactly where peers are to be told and 1,000 packets wait on the link to one: the lowest is
@@ -343,16 +389,20 @@ impl Core {
         requires room { has_journal_room self.old.journal ≡ true }
         ensures ok { IfOk result (λ a. (frames : List Outgoing) ×
             Performs self.old by (EventNote.Withdraw port key) self.new frames a × Adds out.old out.new frames) }
+        ensures succeeds { 0 < self.old.promised → told_withdrawal self.old.sockets port key ≡ [] → IsOk result }
         ensures err { OnErr result ((self.new ≡ self.old) × (out.new ≡ out.old)) }
     {
         let note = EventNote::Withdraw { port, key };
         if !self.draft.sockets().has(port) {
-            return self.refuse(alloc, by, note, Answer::NoSocket);
+            return self.refuse_ready(by, note, Answer::NoSocket, Answer::NoSocket);
         }
         let Some(publication) = self.draft.sockets().published_at(port, key) else {
-            return self.refuse(alloc, by, note, Answer::Unknown);
+            return self.refuse_ready(by, note, Answer::Unknown, Answer::Unknown);
         };
         self.sound();
+        if !is_clusterwide(&publication) {
+            return self.withdraw_here(by, port, key, publication);
+        }
         let told = telling(alloc, &publication, true)?;
         let inside = alone(alloc, Entry::Withdrawn { publication })?;
         let change = NameChange::Withdraw { port, key };
@@ -361,19 +411,20 @@ impl Core {
 
     /// Takes the first message that waits at a port: NoSocket exactly where the port isn't there, Empty exactly where none
     /// waits there.
-    pub(crate) fn receive(&mut self, alloc: Global, by: By, port: u32) -> Result<Answer, NoMemory>
+    pub(crate) fn receive(&mut self, by: By, port: u32) -> Result<Answer, NoMemory>
         requires room { has_journal_room self.old.journal ≡ true }
         ensures ok { IfOk result (CarriesOut self.old by (EventNote.Receive port)
             (plan_of self.old (EventNote.Receive port) None) self.new []) }
+        ensures succeeds { 0 < self.old.promised → IsOk result }
         ensures err { OnErr result (self.new ≡ self.old) }
     {
-        let note = EventNote::Receive { port };
-        self.journal.reserve(2)?;
-        let Ok(first) = self.draft.sockets.receive(port) else {
-            return self.refuse(alloc, by, note, Answer::NoSocket);
+        make_ready(&mut self.journal)?;
+        let (kept, answer) = match self.draft.sockets.receive(port) {
+            Ok(first) => first_answers(first),
+            Err(_) => (Answer::NoSocket, Answer::NoSocket),
         };
-        let (kept, answer) = first_answers(first);
-        record(&mut self.journal, by, note, Vec::new(alloc), kept);
+        let note = EventNote::Receive { port };
+        record_alone(&mut self.journal, by, note, kept);
         Ok(answer)
     }
 
@@ -419,42 +470,41 @@ impl Core {
     }
 
     /// Cancels a subscription: Unknown exactly where none of that number is there.
-    pub(crate) fn cancel(&mut self, alloc: Global, by: By, number: u32) -> Result<Answer, NoMemory>
+    pub(crate) fn cancel(&mut self, by: By, number: u32) -> Result<Answer, NoMemory>
         requires room { has_journal_room self.old.journal ≡ true }
         ensures ok { IfOk result (CarriesOut self.old by (EventNote.Cancel number)
             (plan_of self.old (EventNote.Cancel number) None) self.new []) }
+        ensures succeeds { 0 < self.old.promised → IsOk result }
         ensures err { OnErr result (self.new ≡ self.old) }
     {
+        make_ready(&mut self.journal)?;
         let note = EventNote::Cancel { number };
-        self.journal.reserve(3)?;
-        let inside = alone(alloc, Entry::Cancelled { number })?;
         let Ok(()) = self.draft.sockets.cancel(number) else {
-            return self.refuse(alloc, by, note, Answer::Unknown);
+            record_alone(&mut self.journal, by, note, Answer::Unknown);
+            return Ok(Answer::Unknown);
         };
-        record(&mut self.journal, by, note, inside, Answer::Done);
+        let inside = Entry::Cancelled { number };
+        record_one(&mut self.journal, by, note, inside, Answer::Done);
         Ok(Answer::Done)
     }
 
     /// Takes the first event of a subscription that wasn't taken yet: Unknown exactly where none of that number is
     /// there, NoEvent exactly where each event was taken.
-    pub(crate) fn next_event(
-        &mut self,
-        alloc: Global,
-        by: By,
-        number: u32,
-    ) -> Result<Answer, NoMemory>
+    pub(crate) fn next_event(&mut self, by: By, number: u32) -> Result<Answer, NoMemory>
         requires room { has_journal_room self.old.journal ≡ true }
         ensures ok { IfOk result (CarriesOut self.old by (EventNote.NextEvent number)
             (plan_of self.old (EventNote.NextEvent number) None) self.new []) }
+        ensures succeeds { 0 < self.old.promised → IsOk result }
         ensures err { OnErr result (self.new ≡ self.old) }
     {
+        make_ready(&mut self.journal)?;
         let note = EventNote::NextEvent { number };
-        self.journal.reserve(2)?;
         let Ok(first) = self.draft.sockets.next_event(number) else {
-            return self.refuse(alloc, by, note, Answer::Unknown);
+            record_alone(&mut self.journal, by, note, Answer::Unknown);
+            return Ok(Answer::Unknown);
         };
         let kept = event_answer(&first);
-        record(&mut self.journal, by, note, Vec::new(alloc), kept);
+        record_alone(&mut self.journal, by, note, kept);
         Ok(event_answer(&first))
     }
 }

@@ -213,6 +213,7 @@ impl Draft {
         ensures still { filter is_of_contact (told_changes heard) ≡ [] → heard.stated ≡ None →
             broadcast.new ≡ broadcast.old }
         ensures journal { journal.new.entries ≡ journal.old.entries }
+        ensures kept { journal.new.kept ≡ journal.old.kept }
         ensures spare { OnOk result (length self.new.work.inside + 2 ≤ journal.new.spare) }
         ensures fits { OnOk result ((length self.new.work.inside ≤ free_entries - 4) ×
             (sum_by entry_bytes self.new.work.inside ≤ free_message_bytes)) }

@@ -1,18 +1,18 @@
 //! The parts of a node, and the calls that it performs.
 
-ghost use Rattle.std.specs.Prelude.{◌≡◌, ℕ, ◌+◌, ◌%◌, ◌^◌, ◌<◌, ◌≤◌, List, [], true, false, if◌then◌else◌, None, Some, Err, length, slice_index_or, IfOk, IfSome, IfNone, OnErr, OnOk};
+ghost use Rattle.std.specs.Prelude.{◌≡◌, ℕ, ◌+◌, ◌%◌, ◌^◌, ◌<◌, ◌≤◌, List, [], true, false, if◌then◌else◌, None, Some, Err, length, slice_index_or, IfOk, IfSome, IfNone, IsOk, OnErr, OnOk};
 ghost use Rattle.tipc_types.specs.Address.{IsNodeWord};
 ghost use Rattle.tipc_outside.specs.Frames.{Adds};
 ghost use Rattle.tipc_outside.specs.declared.outgoing.Outgoing.{Outgoing};
 ghost use Rattle.tipc_journal.specs.Counting.{is_sent_by_name};
 ghost use Rattle.tipc_sockets.specs.SocketTables.{AreSockets, no_sockets};
-ghost use Rattle.tipc_node.specs.Calls.{CanPerform, IsPickedFrom, Performs, tick_plan, upkeep_plan};
+ghost use Rattle.tipc_node.specs.Calls.{CanPerform, IsPickedFrom, Performs, TakesNoMemory, tick_plan, upkeep_plan};
 ghost use Rattle.tipc_broadcast.specs.Casting.{booted};
 ghost use Rattle.tipc_node.specs.Casting.{casting_in};
 ghost use Rattle.tipc_node.specs.Discovery.{nobody_heard};
 ghost use Rattle.tipc_node.specs.Turns.{HaveJoined};
 ghost use Rattle.tipc_node.specs.Neighbours.{IsOnBearer};
-ghost use Rattle.tipc_node.specs.Nodes.{is_mended_on, node_load, neighbour_of, recorded, upkeep_note};
+ghost use Rattle.tipc_node.specs.Nodes.{is_mended_on, node_load, neighbour_of, promising, recorded, upkeep_note};
 ghost use Rattle.tipc_node.specs.Plans.{CarriesOut};
 ghost use Rattle.tipc_journal.specs.Room.{has_journal_room};
 
@@ -68,6 +68,7 @@ impl Model for Core {
       sockets = n.draft.work.sockets;
       journal = n.journal.entries;
       casting = n.broadcast;
+      promised = n.journal.kept;
     } };
 
     ghost invariant = { λ n. IsIdle n.draft × (1 ≤ n.boot) × (n.draft.work.sockets.own ≡ n.own.word) ×
@@ -98,6 +99,7 @@ impl Core {
         ensures unheard { IfOk result (λ n. n.found ≡ nobody_heard own.word) }
         ensures ticks { IfOk result (λ n. n.ticks ≡ 0) }
         ensures casting { IfOk result (λ n. n.casting ≡ booted own.word boot) }
+        ensures promised { IfOk result (λ n. n.promised ≡ 0) }
     {
         Ok(Core {
             own,
@@ -167,6 +169,21 @@ impl Core {
         &self.journal
     }
 
+    /// Promises that so many calls, at least, find their memory.
+    pub fn reserve(&mut self, calls: u64) -> Result<(), NoMemory>
+        ensures ok { OnOk result (self.new ≡ promising self.old calls) }
+        ensures err { OnErr result (self.new ≡ self.old) }
+    {
+        self.journal.keep(calls)
+    }
+
+    /// How many calls were promised their memory.
+    pub fn promised(&self) -> u64
+        ensures { result ≡ self.now.promised }
+    {
+        self.journal.kept()
+    }
+
     /// Gives up its journal: the boot is over.
     pub fn into_journal(self) -> Journal
         ensures { result.entries ≡ self.journal }
@@ -214,6 +231,8 @@ impl Core {
         ensures room { OnOk result (has_journal_room self.old.journal ≡ true) }
         ensures full { has_journal_room self.old.journal ≡ false → result ≡ Err NodeFault.JournalFull }
         ensures only { result ≡ Err NodeFault.JournalFull → has_journal_room self.old.journal ≡ false }
+        ensures succeeds { 0 < self.old.promised → has_journal_room self.old.journal ≡ true →
+            TakesNoMemory self.old.sockets call → IsOk result }
         ensures err { OnErr result ((self.new ≡ self.old) × (out.new ≡ out.old) × (chooser.new ≡ chooser.old)) }
     {
         if !has_journal_room(&self.journal) {
@@ -243,6 +262,7 @@ impl Core {
           pick = chooser.old.pick;
           turn = if is_sent_by_name call a then (chooser.old.turn + 1) % 2 ^ 64 else chooser.old.turn;
         }) }
+        ensures succeeds { 0 < self.old.promised → TakesNoMemory self.old.sockets call → IsOk result }
         ensures err { OnErr result ((self.new ≡ self.old) × (out.new ≡ out.old) × (chooser.new ≡ chooser.old)) }
     {
         match call {
@@ -255,7 +275,7 @@ impl Core {
                 key,
             } => self.publish(alloc, by, port, range, scope, key, out),
             EventNote::Withdraw { port, key } => self.withdraw(alloc, by, port, key, out),
-            EventNote::Receive { port } => self.receive(alloc, by, port),
+            EventNote::Receive { port } => self.receive(by, port),
             EventNote::SendPort {
                 port,
                 to,
@@ -272,8 +292,8 @@ impl Core {
                 alloc, by, port, kind, instance, importance, body, chooser, out,
             ),
             EventNote::Subscribe { subscription } => self.subscribe(alloc, by, subscription),
-            EventNote::Cancel { number } => self.cancel(alloc, by, number),
-            EventNote::NextEvent { number } => self.next_event(alloc, by, number),
+            EventNote::Cancel { number } => self.cancel(by, number),
+            EventNote::NextEvent { number } => self.next_event(by, number),
             EventNote::Tick => self.tick(alloc, by, out),
             EventNote::Cut { bearer } => self.take_part(alloc, by, Upkeep::Cut(bearer), out),
             EventNote::Mend { bearer } => self.take_part(alloc, by, Upkeep::Mend(bearer), out),

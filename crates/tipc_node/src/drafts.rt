@@ -200,6 +200,7 @@ impl Draft {
               self.old.work.inside;
         }) }
         ensures journal { journal.new.entries ≡ journal.old.entries }
+        ensures kept { journal.new.kept ≡ journal.old.kept }
         ensures spare { OnOk result (length inside.now + 2 ≤ journal.new.spare) }
         ensures fits { OnOk result ((length inside.now ≤ free_entries - 4) ×
             (sum_by entry_bytes inside.now ≤ free_message_bytes)) }
@@ -287,6 +288,7 @@ impl Draft {
         requires bytes { sum_by entry_bytes self.old.work.inside ≤ free_message_bytes }
         ensures journal { journal.new.entries ≡ journal.old.entries ++ step_entries
             (step_of by note self.old.work.inside answer) }
+        ensures kept { journal.new.kept ≡ journal.old.kept - 1 }
         ensures frames { (frames : List Outgoing) → Adds no_frames self.old.out frames → Adds out.old out.new frames }
         ensures neighbours { self.new.work.neighbours ≡ self.old.work.neighbours }
         ensures sockets { self.new.work.sockets ≡ self.old.work.sockets }

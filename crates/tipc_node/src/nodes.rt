@@ -1,6 +1,6 @@
 //! The node, its calls, and what arrives at it.
 
-ghost use Rattle.std.specs.Prelude.{◌≡◌, ℕ, ◌+◌, ◌%◌, ◌^◌, ◌<◌, ◌≤◌, [], true, false, if◌then◌else◌, None, Some, Err, length, unwrap_or, IfOk, IfSome, IfNone, OnErr, OnOk};
+ghost use Rattle.std.specs.Prelude.{◌≡◌, ℕ, ◌+◌, ◌%◌, ◌^◌, ◌<◌, ◌≤◌, [], true, false, if◌then◌else◌, None, Some, Err, length, unwrap_or, IfOk, IfSome, IfNone, IsOk, OnErr, OnOk};
 ghost use Rattle.tipc_types.specs.Address.{node_word, IsNodeWord};
 ghost use Rattle.tipc_journal.specs.Streams.{accepted, delivered};
 ghost use Rattle.tipc_journal.specs.Counting.{is_sent_by_name};
@@ -10,10 +10,10 @@ ghost use Rattle.tipc_pair.specs.Facing.{state_of};
 ghost use Rattle.tipc_pair.specs.PairCalls.{numbered_of};
 ghost use Rattle.tipc_sockets.specs.SocketTables.{no_sockets, queue_at};
 ghost use Rattle.tipc_node.specs.Arrivals.{Arrived};
-ghost use Rattle.tipc_node.specs.Calls.{CanPerform, HasInstances, Performed};
+ghost use Rattle.tipc_node.specs.Calls.{CanPerform, HasInstances, Performed, TakesNoMemory};
 ghost use Rattle.tipc_broadcast.specs.Casting.{booted};
 ghost use Rattle.tipc_node.specs.Discovery.{nobody_heard};
-ghost use Rattle.tipc_node.specs.Nodes.{contact_with, end_with, is_mended_on, node_load, neighbour_of};
+ghost use Rattle.tipc_node.specs.Nodes.{contact_with, end_with, is_mended_on, node_load, neighbour_of, promising};
 ghost use Rattle.tipc_journal.specs.Room.{has_journal_room};
 ghost use Rattle.tipc_node.specs.Sharing.{SharesNames};
 ghost use Rattle.tipc_node.specs.Telling.{IsTold};
@@ -71,6 +71,7 @@ impl Node {
         ensures unheard { IfOk result (λ n. n.found ≡ nobody_heard own.word) }
         ensures ticks { IfOk result (λ n. n.ticks ≡ 0) }
         ensures casting { IfOk result (λ n. n.casting ≡ booted own.word boot) }
+        ensures promised { IfOk result (λ n. n.promised ≡ 0) }
         ensures told { IfOk result (λ n. IsTold n) }
         ensures shares { IfOk result (λ n. SharesNames n) }
     {
@@ -201,6 +202,27 @@ impl Node {
         self.core.draft.sockets().names()
     }
 
+    /// Promises that so many calls, at least, find their memory: as many among `receive`, `cancel`, `next_event` and a
+    /// `withdraw` of which no peer is told are made though memory has run out. Each call or arrival that is recorded uses one
+    /// of them up, and takes no memory that is promised.
+    ///
+    /// # Errors
+    ///
+    /// NoMemory changes nothing.
+    pub fn reserve(&mut self, calls: u64) -> Result<(), NoMemory>
+        ensures ok { OnOk result (self.new ≡ promising self.old calls) }
+        ensures err { OnErr result (self.new ≡ self.old) }
+    {
+        self.core.reserve(calls)
+    }
+
+    /// For how many calls memory is promised.
+    pub fn promised(&self) -> u64
+        ensures { result ≡ self.now.promised }
+    {
+        self.core.promised()
+    }
+
     /// Gives up its journal: the boot is over.
     pub fn into_journal(self) -> Journal
         ensures { result.entries ≡ self.journal }
@@ -214,7 +236,8 @@ impl Node {
     ///
     /// # Errors
     ///
-    /// JournalFull exactly where the journal has no room for a call, else NoMemory. Neither changes anything.
+    /// JournalFull exactly where the journal has no room for a call, else NoMemory. Neither changes anything. A call that
+    /// takes no memory, where memory was promised, doesn't fail for want of it: see [`Node::reserve`].
     pub fn perform<P: Pick>(
         &mut self,
         alloc: Global,
@@ -234,6 +257,8 @@ impl Node {
         ensures room { OnOk result (has_journal_room self.old.journal ≡ true) }
         ensures full { has_journal_room self.old.journal ≡ false → result ≡ Err NodeFault.JournalFull }
         ensures only { result ≡ Err NodeFault.JournalFull → has_journal_room self.old.journal ≡ false }
+        ensures succeeds { 0 < self.old.promised → has_journal_room self.old.journal ≡ true →
+            TakesNoMemory self.old.sockets call → IsOk result }
         ensures err { OnErr result ((self.new ≡ self.old) × (out.new ≡ out.old) × (chooser.new ≡ chooser.old)) }
     {
         ranged(&call);

@@ -1,14 +1,14 @@
 //! How a step is recorded in the journal, and when the journal has room for it.
 
-ghost use Rattle.std.specs.Prelude.{◌≡◌, ◌+◌, ◌-◌, ◌≤◌, ◌++◌, true, false, length, map, OnOk, Err, sum_by, None, Some, vec_len, vec_capacity};
+ghost use Rattle.std.specs.Prelude.{◌≡◌, ◌+◌, ◌-◌, ◌<◌, ◌≤◌, ◌++◌, ◌∷◌, [], true, false, length, map, IsOk, OnOk, Err, sum_by, None, Some, vec_len, vec_capacity};
 ghost use Rattle.tipc_journal.specs.declared.entries.Entry.TheVariants.{TimedOut};
-ghost use Rattle.tipc_journal.specs.Room.{entry_bytes, free_entries, free_message_bytes, has_journal_room};
+ghost use Rattle.tipc_journal.specs.Room.{IsReady, entry_bytes, free_entries, free_message_bytes, has_journal_room};
 ghost use Rattle.tipc_journal.specs.Steps.{step_entries};
 ghost use Rattle.tipc_node.specs.Nodes.{change_entries, change_entry, step_of};
 
 use std::alloc::{AllocError, AllocFailed};
 use std::collections::VecDeque;
-use tipc_journal::{Entry, Journal, MOST_ENTRIES, MOST_MESSAGE_BYTES};
+use tipc_journal::{Entry, Journal, MOST_ENTRIES, MOST_MESSAGE_BYTES, SHORT_STEP};
 use tipc_pair::Transition;
 use tipc_types::{Addr, Answer, By, EventNote, NoMemory};
 
@@ -74,6 +74,7 @@ pub fn begin(journal: &mut Journal, inside: u64) -> Result<(), NodeFault>
     ensures full { has_journal_room journal.old.entries ≡ false → result ≡ Err NodeFault.JournalFull }
     ensures only { result ≡ Err NodeFault.JournalFull → has_journal_room journal.old.entries ≡ false }
     ensures journal { journal.new.entries ≡ journal.old.entries }
+    ensures kept { journal.new.kept ≡ journal.old.kept }
 {
     if !has_journal_room(journal) {
         return Err(NodeFault::JournalFull);
@@ -82,19 +83,69 @@ pub fn begin(journal: &mut Journal, inside: u64) -> Result<(), NodeFault>
     Ok(())
 }
 
-/// Records a step: who made the call, the call, what happened in it, and its answer.
+/// Records a step: who made the call, the call, what happened in it, and its answer. One of the promised calls is used up.
 pub fn record(journal: &mut Journal, by: By, event: EventNote, inside: Vec<Entry>, answer: Answer)
     requires room { has_journal_room journal.old.entries ≡ true }
     requires few { length inside.items ≤ free_entries - 2 }
     requires spare { length inside.items + 2 ≤ journal.old.spare }
     requires bytes { sum_by entry_bytes inside.items ≤ free_message_bytes }
-    ensures { journal.new.entries ≡ journal.old.entries ++ step_entries (step_of by event inside.items answer) }
+    ensures journal { journal.new.entries ≡ journal.old.entries ++ step_entries (step_of by event inside.items answer) }
+    ensures kept { journal.new.kept ≡ journal.old.kept - 1 }
 {
     journal.commit(Entry::Step { by, event });
     let mut waiting = VecDeque::from_vec(inside);
     while let Some(entry) = waiting.pop_front() {
         journal.commit(entry);
     }
+    journal.commit(Entry::Answered {
+        caller: by.caller,
+        call: by.call,
+        answer,
+    });
+    journal.release();
+}
+
+/// Makes a journal ready for a step with one entry inside at most, which needs no memory where one of the promised calls is
+/// left.
+pub fn make_ready(journal: &mut Journal) -> Result<(), NoMemory>
+    ensures ok { OnOk result (IsReady journal.new) }
+    ensures succeeds { 0 < journal.old.kept → IsOk result }
+    ensures entries { journal.new.entries ≡ journal.old.entries }
+    ensures kept { journal.new.kept ≡ journal.old.kept }
+{
+    if journal.kept() > 0 {
+        return Ok(());
+    }
+    journal.reserve(SHORT_STEP)
+}
+
+/// Records a step in which nothing happened. One of the promised calls is used up.
+pub fn record_alone(journal: &mut Journal, by: By, event: EventNote, answer: Answer)
+    requires room { has_journal_room journal.old.entries ≡ true }
+    requires ready { IsReady journal.old }
+    ensures journal { journal.new.entries ≡ journal.old.entries ++ step_entries (step_of by event [] answer) }
+    ensures kept { journal.new.kept ≡ journal.old.kept - 1 }
+{
+    journal.release();
+    journal.commit(Entry::Step { by, event });
+    journal.commit(Entry::Answered {
+        caller: by.caller,
+        call: by.call,
+        answer,
+    });
+}
+
+/// Records a step in which this alone happened, which has no message bytes. One of the promised calls is used up.
+pub fn record_one(journal: &mut Journal, by: By, event: EventNote, inside: Entry, answer: Answer)
+    requires room { has_journal_room journal.old.entries ≡ true }
+    requires ready { IsReady journal.old }
+    requires bytes { entry_bytes inside ≡ 0 }
+    ensures journal { journal.new.entries ≡ journal.old.entries ++ step_entries (step_of by event (inside ∷ []) answer) }
+    ensures kept { journal.new.kept ≡ journal.old.kept - 1 }
+{
+    journal.release();
+    journal.commit(Entry::Step { by, event });
+    journal.commit(inside);
     journal.commit(Entry::Answered {
         caller: by.caller,
         call: by.call,

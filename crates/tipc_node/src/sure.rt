@@ -115,6 +115,7 @@ pub fn conclude_waiting(
     ensures sockets { sockets.new ≡ with_all_waiting sockets.old told.messages.items }
     ensures journal { journal.new.entries ≡ journal.old.entries ++ step_entries
         (step_of by note told.entries.items answer) }
+    ensures kept { journal.new.kept ≡ journal.old.kept - 1 }
 {
     put_all(sockets, told.messages);
     record(journal, by, note, told.entries, answer);

@@ -26,7 +26,7 @@ use tipc_types::{Addr, Answer, Message, NoMemory, Publication, Scope};
 const NAMES_LIMIT: u32 = 1_000;
 
 /// Whether a publication is seen in the cluster.
-fn is_clusterwide(p: &Publication) -> bool
+pub fn is_clusterwide(p: &Publication) -> bool
     ensures { result ≡ is_clusterwide p.now.scope }
 {
     match p.scope {
@@ -251,6 +251,7 @@ impl Draft {
         ensures told { OnOk result ((s : SocketTable) → ToldPeers (own_of self.old) (with_sockets_of self.old.work s)
             messages.now (with_sockets_of self.new.work s) self.old.out self.new.out) }
         ensures journal { journal.new.entries ≡ journal.old.entries }
+        ensures kept { journal.new.kept ≡ journal.old.kept }
         ensures spare { OnOk result (length self.new.work.inside + 2 ≤ journal.new.spare) }
         ensures fits { OnOk result ((length self.new.work.inside ≤ free_entries - 2) ×
             (sum_by entry_bytes self.new.work.inside ≤ free_message_bytes)) }
@@ -279,6 +280,7 @@ impl Draft {
             (work_of self.old.work.neighbours s inside.items) messages.now (with_sockets_of self.new.work s)
             no_frames self.new.out) }
         ensures journal { journal.new.entries ≡ journal.old.entries }
+        ensures kept { journal.new.kept ≡ journal.old.kept }
         ensures spare { OnOk result (length self.new.work.inside + 2 ≤ journal.new.spare) }
         ensures fits { OnOk result ((length self.new.work.inside ≤ free_entries - 2) ×
             (sum_by entry_bytes self.new.work.inside ≤ free_message_bytes)) }

@@ -132,7 +132,9 @@ static CARRIED: [Carried; 3] = [
 fn begins(rt: &impl Abort, alloc: Global, journal: &mut Journal) -> Result<(), Fail> {
     answered(journal)?;
     journal.reserve(10)?;
-    assert!(rt; journal.len() == 1 && journal.spare() == 10);
+    journal.keep(2)?;
+    journal.release();
+    assert!(rt; journal.len() == 1 && journal.spare() == 13 && journal.kept() == 1);
     carried(rt, alloc, journal, &(CONTACT, Flow::Zero, (0, 0)))?;
     tells(rt, alloc, journal, &[])
 }

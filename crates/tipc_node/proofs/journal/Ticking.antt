@@ -1,7 +1,7 @@
 -- A tick: it happens to all neighbours, then subscriptions time out, and it passes for the others. The journal tells of the node after it.
 use Rattle.std.specs.Prelude.{◌==◌, nat_le, not}
 use Rattle.std.specs.List.{list_all, list_any}
-use Rattle.std.proofs.Common.{◌≡◌, ◌&&◌, ◌||◌, ℕ, Bool, true, false, List, [], ◌∷◌, ◌++◌, Option, cond, filter, fold, length, map, refl, sym, ap, ◌∙◌, subst, take}
+use Rattle.std.proofs.Common.{◌-◌, ◌≡◌, ◌&&◌, ◌||◌, ℕ, Bool, true, false, List, [], ◌∷◌, ◌++◌, Option, cond, filter, fold, length, map, refl, sym, ap, ◌∙◌, subst, take}
 use Rattle.std.proofs.Math.Seq.{take-append_seam}
 use Rattle.std.proofs.lemmas.Bool.{and_parts}
 use Rattle.std.proofs.lemmas.List.Folds.{list_any-append}
@@ -138,13 +138,13 @@ tick_call n by h inner =
 -- ---- the node after it
 
 -- the parts of the node are those of the work on a tick
-pub ticks_from : (n : NodeState) (by : By) (ticks : ℕ) (v : Casting) (xs : List (Option Neighbour)) (mid s : SocketTable) (journal : List Entry) → ticks ≡ next_tick n.ticks → v ≡ after_deeds (upkeep_deeds upkeep.Tick n) n.casting → xs ≡ after_all (parts_of upkeep.Tick n)
+pub ticks_from : (n : NodeState) (by : By) (ticks : ℕ) (v : Casting) (xs : List (Option Neighbour)) (mid s : SocketTable) (journal : List Entry) (promised : ℕ) → ticks ≡ next_tick n.ticks → v ≡ after_deeds (upkeep_deeds upkeep.Tick n) n.casting → xs ≡ after_all (parts_of upkeep.Tick n)
     → mid ≡ fold after_entry n.sockets (entries_all 0 (parts_of upkeep.Tick n))
     → s ≡ with_watchers mid (passed (fold (λ t number. ended_at number t) mid.watchers (due mid.watchers.kept)))
-    → journal ≡ n.journal ++ step_entries (step_of by event.Tick (entries_all 0 (parts_of upkeep.Tick n) ++ timeouts_of n.sockets) answer.Done)
-    → record n { ticks = ticks; neighbours = xs; sockets = s; journal = journal; casting = v } ≡ concluded_by n by event.Tick (tick_plan n) (tick_work n)
-ticks_from n by ticks v xs mid s journal counted cast neighbours between passes told =
-    (λ i. record n { ticks = counted i; neighbours = neighbours i; sockets = sockets i; journal = told i; casting = cast i })
+    → journal ≡ n.journal ++ step_entries (step_of by event.Tick (entries_all 0 (parts_of upkeep.Tick n) ++ timeouts_of n.sockets) answer.Done) → promised ≡ n.promised - 1
+    → record n { ticks = ticks; neighbours = xs; sockets = s; journal = journal; casting = v; promised = promised } ≡ concluded_by n by event.Tick (tick_plan n) (tick_work n)
+ticks_from n by ticks v xs mid s journal promised counted cast neighbours between passes told used =
+    (λ i. record n { ticks = counted i; neighbours = neighbours i; sockets = sockets i; journal = told i; casting = cast i; promised = used i })
   where
     first : SocketTable
     first = fold after_entry n.sockets (entries_all 0 (parts_of upkeep.Tick n))
@@ -165,9 +165,9 @@ pub front_of : (told more all : List Entry) (count : ℕ) → all ≡ told ++ mo
 front_of told more all count is counted = (λ i. take (counted i) (is i)) ∙ take-append_seam told more
 
 -- the parts of the node are those of the work on all neighbours
-pub takes_from : (n : NodeState) (by : By) (d : Upkeep) (mended : Bool × Bool) (v : Casting) (xs : List (Option Neighbour)) (s : SocketTable) (journal : List Entry) → mended ≡ mended_by d n.mended → v ≡ after_deeds (upkeep_deeds d n) n.casting → xs ≡ after_all (parts_of d n)
+pub takes_from : (n : NodeState) (by : By) (d : Upkeep) (mended : Bool × Bool) (v : Casting) (xs : List (Option Neighbour)) (s : SocketTable) (journal : List Entry) (promised : ℕ) → mended ≡ mended_by d n.mended → v ≡ after_deeds (upkeep_deeds d n) n.casting → xs ≡ after_all (parts_of d n)
     → s ≡ fold after_entry n.sockets (entries_all 0 (parts_of d n))
-    → journal ≡ n.journal ++ step_entries (step_of by (upkeep_note d) (entries_all 0 (parts_of d n)) answer.Done)
-    → record n { mended = mended; neighbours = xs; sockets = s; journal = journal; casting = v } ≡ concluded_by n by (upkeep_note d) (upkeep_plan n d) (upkeep_work d n)
-takes_from n by d mended v xs s journal repaired cast neighbours sockets told =
-    (λ i. record n { mended = repaired i; neighbours = neighbours i; sockets = sockets i; journal = told i; casting = cast i })
+    → journal ≡ n.journal ++ step_entries (step_of by (upkeep_note d) (entries_all 0 (parts_of d n)) answer.Done) → promised ≡ n.promised - 1
+    → record n { mended = mended; neighbours = xs; sockets = s; journal = journal; casting = v; promised = promised } ≡ concluded_by n by (upkeep_note d) (upkeep_plan n d) (upkeep_work d n)
+takes_from n by d mended v xs s journal promised repaired cast neighbours sockets told used =
+    (λ i. record n { mended = repaired i; neighbours = neighbours i; sockets = sockets i; journal = told i; casting = cast i; promised = used i })

@@ -85,28 +85,35 @@ pub record HasHeardOf (n : NodeState) (peer bearer : ℕ) (f : Found) (now : Nei
 -- ---- the node
 
 -- the node where it found the peer, or knew it before, and its journal is this
-pub discovered_by : (n : NodeState) (peer bearer : ℕ) (f : Found) (now : Neighbourhood) (journal : List Entry) → HasHeardOf n peer bearer f now
-    → record n { found = now; neighbours = welcomed n.own n.boot f peer bearer n.neighbours; journal = journal } ≡ record (discovered_node n peer bearer) { journal = journal }
-discovered_by n peer bearer f now journal h = by (has_found n bearer peer) h.is
+pub discovered_by : (n : NodeState) (peer bearer : ℕ) (f : Found) (now : Neighbourhood) (journal : List Entry) (promised : ℕ) → HasHeardOf n peer bearer f now
+    → record n { found = now; neighbours = welcomed n.own n.boot f peer bearer n.neighbours; journal = journal; promised = promised } ≡ record (discovered_node n peer bearer) { journal = journal; promised = promised }
+discovered_by n peer bearer f now journal promised h = by (has_found n bearer peer) h.is
   where
-    by : (heard : Bool) → f ≡ found_by heard → record n { found = now; neighbours = welcomed n.own n.boot f peer bearer n.neighbours; journal = journal } ≡ record (if heard then n else found_node n peer bearer) { journal = journal }
+    by : (heard : Bool) → f ≡ found_by heard → record n { found = now; neighbours = welcomed n.own n.boot f peer bearer n.neighbours; journal = journal; promised = promised } ≡ record (if heard then n else found_node n peer bearer) { journal = journal; promised = promised }
     by true known =
         let same : now ≡ n.found = found_same n.found now bearer h.one h.own (h.here ∙ ap (λ g. after_hearing g (node_word peer) (heard_on bearer n.found)) known) h.there in
         let neighbours = ap (λ g. welcomed n.own n.boot g peer bearer n.neighbours) known in
-        (λ i. record n { found = same i; neighbours = neighbours i; journal = journal })
+        (λ i. record n { found = same i; neighbours = neighbours i; journal = journal; promised = promised })
     by false new =
         let more : now ≡ with_found n.found bearer (node_word peer) =
         found_more n.found now bearer (node_word peer) h.one h.own (h.here ∙ ap (λ g. after_hearing g (node_word peer) (heard_on bearer n.found)) new) h.there in
         let neighbours =
         ap (λ g. welcomed n.own n.boot g peer bearer n.neighbours) new
         ∙ ap (λ (x : Neighbour). slice_set n.neighbours peer (Some (with_pair x (making bearer x).pair))) (same_acquaintance n peer (neighbour_of n peer)) in
-        (λ i. record n { found = more i; neighbours = neighbours i; journal = journal })
+        (λ i. record n { found = more i; neighbours = neighbours i; journal = journal; promised = promised })
 
 -- the parts of a node after a discovery packet that it doesn't touch
 pub discovered_same : (n : NodeState) (peer bearer : ℕ) → ((discovered_node n peer bearer).journal ≡ n.journal) × ((discovered_node n peer bearer).sockets ≡ n.sockets)
 discovered_same n peer bearer = elim (has_found n bearer peer) as (λ b. ((if b then n else found_node n peer bearer).journal ≡ n.journal) × ((if b then n else found_node n peer bearer).sockets ≡ n.sockets)) [
   | true ↦ (refl, refl)
   | false ↦ (refl, refl)
+]
+
+-- nor does it touch what was promised
+pub discovered_promised : (n : NodeState) (peer bearer : ℕ) → (discovered_node n peer bearer).promised ≡ n.promised
+discovered_promised n peer bearer = elim (has_found n bearer peer) as (λ b. (if b then n else found_node n peer bearer).promised ≡ n.promised) [
+  | true ↦ refl
+  | false ↦ refl
 ]
 
 -- the frames that leave with the link end
@@ -145,13 +152,14 @@ found_shown n f previous peer bearer said own from range other ours is =
     ∙ found_is n.own peer said (heard_on bearer n.found) range other ours
 
 -- the node that recorded it
-pub discovered_recorded : (n : NodeState) (by : By) (number peer bearer : ℕ) (f : Found) (now : Neighbourhood) (journal : List Entry) → HasHeardOf n peer bearer f now
-    → journal ≡ n.journal ++ step_entries (step_of by (Arrive bearer number) [] (answer.Arrived (arrival.Took 0)))
-    → record n { found = now; neighbours = welcomed n.own n.boot f peer bearer n.neighbours; journal = journal } ≡ recorded (discovered_node n peer bearer) by (Arrive bearer number) [] (answer.Arrived (arrival.Took 0))
-discovered_recorded n by number peer bearer f now journal h is =
+pub discovered_recorded : (n : NodeState) (by : By) (number peer bearer : ℕ) (f : Found) (now : Neighbourhood) (journal : List Entry) (promised : ℕ) → HasHeardOf n peer bearer f now
+    → journal ≡ n.journal ++ step_entries (step_of by (Arrive bearer number) [] (answer.Arrived (arrival.Took 0))) → promised ≡ n.promised - 1
+    → record n { found = now; neighbours = welcomed n.own n.boot f peer bearer n.neighbours; journal = journal; promised = promised } ≡ recorded (discovered_node n peer bearer) by (Arrive bearer number) [] (answer.Arrived (arrival.Took 0))
+discovered_recorded n by number peer bearer f now journal promised h is used =
     let s = step_of by (Arrive bearer number) [] (answer.Arrived (arrival.Took 0)) in
-    discovered_by n peer bearer f now journal h
-    ∙ ap (λ es. record (discovered_node n peer bearer) { journal = es }) (is ∙ ap (λ es. es ++ step_entries s) (sym (discovered_same n peer bearer).0))
+    let told = is ∙ ap (λ es. es ++ step_entries s) (sym (discovered_same n peer bearer).0) in
+    let left = used ∙ ap (λ k. k - 1) (sym (discovered_promised n peer bearer)) in
+    discovered_by n peer bearer f now journal promised h ∙ (λ i. record (discovered_node n peer bearer) { journal = told i; promised = left i })
 
 -- the frames of the event, as they leave
 pub discovered_left : (n : NodeState) (peer bearer : ℕ) (f : Found) (said : Header) (box event event' out out' : Out) → f ≡ found_by (has_found n bearer peer) → box ≡ no_frames

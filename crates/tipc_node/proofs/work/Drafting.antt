@@ -28,8 +28,8 @@ abbrev pub draft_of : List (Option Neighbour) → SocketTable → List Entry →
 draft_of xs s es copies out = record { work = work_of xs s es; copies = copies; out = out }
 
 -- the node of these parts, which works on that draft
-abbrev pub core_of : ℕ → ℕ → Bool × Bool → Neighbourhood → ℕ → Casting → DraftState → List Entry → NodeState
-core_of own boot mended found ticks v d journal = record { own = own; boot = boot; mended = mended; found = found; ticks = ticks; neighbours = d.work.neighbours; sockets = d.work.sockets; journal = journal; casting = v }
+abbrev pub core_of : ℕ → ℕ → Bool × Bool → Neighbourhood → ℕ → Casting → DraftState → List Entry → ℕ → NodeState
+core_of own boot mended found ticks v d journal promised = record { own = own; boot = boot; mended = mended; found = found; ticks = ticks; neighbours = d.work.neighbours; sockets = d.work.sockets; journal = journal; casting = v; promised = promised }
 
 -- A neighbour that was copied is changed, and the sockets are as they were.
 pub start_changed : (d : DraftState) (xs seen copies copies' : List (Option Neighbour)) (s : SocketTable) (es es' : List Entry) (box box' : Out) (i : ℕ) (y : Option Neighbour)

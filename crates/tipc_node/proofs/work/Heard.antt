@@ -1,5 +1,5 @@
 -- What an arrival makes of a node, where its link heard the packet.
-use Rattle.std.proofs.Common.{◌≡◌, ℕ, List, [], ◌++◌, Option, Some, refl, sym, ap, subst, ◌∙◌}
+use Rattle.std.proofs.Common.{◌-◌, ◌≡◌, ℕ, List, [], ◌++◌, Option, Some, refl, sym, ap, subst, ◌∙◌}
 use Rattle.std.specs.Prelude.{fold, slice_set}
 use Rattle.tipc_types.specs.declared.node_calls.Answer.TheVariants as answer
 use Rattle.tipc_types.specs.declared.node_calls.Arrival.{Arrival}
@@ -116,13 +116,13 @@ heard_worked n v' by bytes x d number answered w' box box' due was h = (
     sent = sent_in heard.out.course
 
 -- so it is in the node's journal
-pub journal_heard : (n m : NodeState) (v : Casting) (by : By) (bytes : List ℕ) (bearer number : ℕ) (answered : Arrival) (w : Work) (es journal : List Entry) (box box' : Out)
+pub journal_heard : (n m : NodeState) (v : Casting) (by : By) (bytes : List ℕ) (bearer number : ℕ) (answered : Arrival) (w : Work) (es journal : List Entry) (promised : ℕ) (box box' : Out)
     → IsHeard n (concluded (record n { casting = v }) by (Arrive bearer number) w (answer.Arrived answered)) by bearer number bytes box box' answered
-    → es ≡ journal ++ step_entries (step_of by (Arrive bearer number) w.inside (answer.Arrived answered)) → journal ≡ n.journal → n ≡ m
-    → IsHeard m (record n { neighbours = w.neighbours; sockets = w.sockets; journal = es; casting = v }) by bearer number bytes box box' answered
-journal_heard n m v by bytes bearer number answered w es journal box box' h recorded kept same =
+    → es ≡ journal ++ step_entries (step_of by (Arrive bearer number) w.inside (answer.Arrived answered)) → journal ≡ n.journal → promised ≡ n.promised - 1 → n ≡ m
+    → IsHeard m (record n { neighbours = w.neighbours; sockets = w.sockets; journal = es; casting = v; promised = promised }) by bearer number bytes box box' answered
+journal_heard n m v by bytes bearer number answered w es journal promised box box' h recorded kept used same =
     let steps = step_entries (step_of by (Arrive bearer number) w.inside (answer.Arrived answered)) in
     let there = recorded ∙ ap (λ js. js ++ steps) kept in
-    let the_node : List Entry → NodeState = λ js. record n { neighbours = w.neighbours; sockets = w.sockets; journal = js; casting = v } in
-    subst (λ (k : NodeState). IsHeard k (the_node es) by bearer number bytes box box' answered) same
-    (subst (λ (n' : NodeState). IsHeard n n' by bearer number bytes box box' answered) (ap the_node (sym there)) h)
+    let the_node : List Entry → ℕ → NodeState = λ js k. record n { neighbours = w.neighbours; sockets = w.sockets; journal = js; casting = v; promised = k } in
+    subst (λ (k : NodeState). IsHeard k (the_node es promised) by bearer number bytes box box' answered) same
+    (subst (λ (n' : NodeState). IsHeard n n' by bearer number bytes box box' answered) (λ i. the_node (sym there i) (sym used i)) h)

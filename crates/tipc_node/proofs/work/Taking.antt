@@ -184,6 +184,6 @@ put_back_same A B v w w' None is some none still = is ∙ still none.0 none.1
 put_back_same A B v w w' (Some copy) is some none still = is ∙ some
 
 -- a node whose parts are as they were
-pub same_parts : (n m : NodeState) (xs : List (Option Neighbour)) (s : SocketTable) (es : List Entry) (v : Casting) → xs ≡ n.neighbours → s ≡ n.sockets → es ≡ n.journal → v ≡ n.casting → n ≡ m
-    → record n { neighbours = xs; sockets = s; journal = es; casting = v } ≡ m
-same_parts n m xs s es v one two three four is = (λ i. record n { neighbours = one i; sockets = two i; journal = three i; casting = four i }) ∙ is
+pub same_parts : (n m : NodeState) (xs : List (Option Neighbour)) (s : SocketTable) (es : List Entry) (v : Casting) (promised : ℕ) → xs ≡ n.neighbours → s ≡ n.sockets → es ≡ n.journal → v ≡ n.casting → promised ≡ n.promised → n ≡ m
+    → record n { neighbours = xs; sockets = s; journal = es; casting = v; promised = promised } ≡ m
+same_parts n m xs s es v promised one two three four five is = (λ i. record n { neighbours = one i; sockets = two i; journal = three i; casting = four i; promised = five i }) ∙ is

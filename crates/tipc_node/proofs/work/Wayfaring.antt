@@ -109,25 +109,25 @@ sent_away n n' by note m limit peer sent box box' kept none away named h =
 pub read_at : (xs : List (Option Neighbour)) (place : ℕ) (x : Option Neighbour) (y : Neighbour) → place < length xs → x ≡ slice_index_or xs place x → x ≡ Some y → slice_index_or xs place None ≡ Some y
 read_at xs place x y within read is = get_or_default xs place None x within ∙ sym read ∙ is
 
-pub home_sent : (n k : NodeState) (by : By) (note : EventNote) (m : Message) (sent : Answer) (own : ℕ) (xs : List (Option Neighbour)) (s : SocketTable) (es told journal : List Entry) → k ≡ n → own ≡ k.own → xs ≡ k.neighbours → es ≡ []
-    → GivesFate own (work_of xs k.sockets es) false m (work_of xs s told) [] → journal ≡ k.journal ++ step_entries (step_of by note told sent)
-    → (w : Work) × GivesFate n.own (begun n) false m w [] × (node_of k k.neighbours s journal ≡ concluded n by note w sent)
-home_sent n k by note m sent own xs s es told journal same node there empty settles recorded =
-    subst (λ (z : NodeState). (w : Work) × GivesFate z.own (begun z) false m w [] × (node_of k k.neighbours s journal ≡ concluded z by note w sent)) same (
+pub home_sent : (n k : NodeState) (by : By) (note : EventNote) (m : Message) (sent : Answer) (own : ℕ) (xs : List (Option Neighbour)) (s : SocketTable) (es told journal : List Entry) (promised : ℕ) → k ≡ n → own ≡ k.own → xs ≡ k.neighbours → es ≡ []
+    → GivesFate own (work_of xs k.sockets es) false m (work_of xs s told) [] → journal ≡ k.journal ++ step_entries (step_of by note told sent) → promised ≡ k.promised - 1
+    → (w : Work) × GivesFate n.own (begun n) false m w [] × (node_of k k.neighbours s journal promised ≡ concluded n by note w sent)
+home_sent n k by note m sent own xs s es told journal promised same node there empty settles recorded used =
+    subst (λ (z : NodeState). (w : Work) × GivesFate z.own (begun z) false m w [] × (node_of k k.neighbours s journal promised ≡ concluded z by note w sent)) same (
       work_of k.neighbours s told,
       subst (λ fs. GivesFate k.own (work_of k.neighbours k.sockets fs) false m (work_of k.neighbours s told) []) empty
           (subst (λ ys. GivesFate k.own (work_of ys k.sockets es) false m (work_of ys s told) []) there (subst (λ word. GivesFate word (work_of xs k.sockets es) false m (work_of xs s told) []) node settles)),
-      ap (node_of k k.neighbours s) recorded,
+      (λ i. node_of k k.neighbours s (recorded i) (used i)),
     )
 
-pub away_sent : (n k : NodeState) (by : By) (note : EventNote) (peer : ℕ) (m : Message) (sent : Answer) (own : ℕ) (ys : List (Option Neighbour)) (s : SocketTable) (es told journal : List Entry) (box box' : Out) → k ≡ n → own ≡ k.own → es ≡ [] → s ≡ k.sockets
-    → ((frames : List Outgoing) × Puts own (work_of k.neighbours k.sockets es) peer m (work_of ys k.sockets told) frames × Adds box box' frames) → journal ≡ k.journal ++ step_entries (step_of by note told sent)
-    → (w : Work) × (frames : List Outgoing) × Puts n.own (begun n) peer m w frames × (node_of k ys s journal ≡ concluded n by note w sent) × Adds box box' frames
-away_sent n k by note peer m sent own ys s es told journal box box' same node empty kept p recorded =
-    subst (λ (z : NodeState). (w : Work) × (frames : List Outgoing) × Puts z.own (begun z) peer m w frames × (node_of k ys s journal ≡ concluded z by note w sent) × Adds box box' frames) same (
+pub away_sent : (n k : NodeState) (by : By) (note : EventNote) (peer : ℕ) (m : Message) (sent : Answer) (own : ℕ) (ys : List (Option Neighbour)) (s : SocketTable) (es told journal : List Entry) (promised : ℕ) (box box' : Out) → k ≡ n → own ≡ k.own → es ≡ [] → s ≡ k.sockets
+    → ((frames : List Outgoing) × Puts own (work_of k.neighbours k.sockets es) peer m (work_of ys k.sockets told) frames × Adds box box' frames) → journal ≡ k.journal ++ step_entries (step_of by note told sent) → promised ≡ k.promised - 1
+    → (w : Work) × (frames : List Outgoing) × Puts n.own (begun n) peer m w frames × (node_of k ys s journal promised ≡ concluded n by note w sent) × Adds box box' frames
+away_sent n k by note peer m sent own ys s es told journal promised box box' same node empty kept p recorded used =
+    subst (λ (z : NodeState). (w : Work) × (frames : List Outgoing) × Puts z.own (begun z) peer m w frames × (node_of k ys s journal promised ≡ concluded z by note w sent) × Adds box box' frames) same (
       work_of ys k.sockets told,
       p.0,
       subst (λ fs. Puts k.own (work_of k.neighbours k.sockets fs) peer m (work_of ys k.sockets told) p.0) empty (subst (λ word. Puts word (work_of k.neighbours k.sockets es) peer m (work_of ys k.sockets told) p.0) node p.1),
-      ap (λ t. node_of k ys t journal) kept ∙ ap (node_of k ys k.sockets) recorded,
+      (λ i. node_of k ys (kept i) (recorded i) (used i)),
       p.2,
     )

@@ -1,4 +1,4 @@
-use Rattle.std.proofs.Common.{◌≡◌, ◌++◌, None, Some, refl, sym, ap, ◌∙◌, subst}
+use Rattle.std.proofs.Common.{◌≡◌, ◌++◌, ◌-◌, None, Some, refl, sym, ap, ◌∙◌, subst}
 use Rattle.tipc_types.specs.declared.node_calls.Answer.TheVariants as answer
 use Rattle.tipc_journal.specs.Steps.{step_entries}
 use Rattle.tipc_sockets.specs.SocketTables.{SocketTable}
@@ -32,10 +32,10 @@ returns-clause-ok c =
     let journal = c.conclude.new.journal.entries in
     let clear : crowd_refusal k.neighbours told ≡ None = ap (λ xs. crowd_refusal xs told) (sym c.neighbours.ensures.value) ∙ sym c.crowd_refusal.ensures ∙ c.in_default.is in
     let changed = ap (λ (z : DraftState). z.work.sockets) c.in-Ok.ensures.ok ∙ ap (λ (t : SocketTable). with_names_changed t a.change) c.share.ensures.sockets in
-    subst (λ (z : NodeState). IsAnnounced z (node_of k last.neighbours last.sockets journal) a.by a.note None (work_of z.neighbours (with_names_changed z.sockets a.change) es) told a.out.now c.conclude.new.out answer.Done) c.self.view_is
-    (announced k a.by a.note (work_of k.neighbours (with_names_changed k.sockets a.change) es) es told told last.neighbours last.sockets e.work.inside journal e.out a.out.now c.conclude.new.out clear refl refl refl
+    subst (λ (z : NodeState). IsAnnounced z (node_of k last.neighbours last.sockets journal c.conclude.new.journal.kept) a.by a.note None (work_of z.neighbours (with_names_changed z.sockets a.change) es) told a.out.now c.conclude.new.out answer.Done) c.self.view_is
+    (announced k a.by a.note (work_of k.neighbours (with_names_changed k.sockets a.change) es) es told told last.neighbours last.sockets e.work.inside journal c.conclude.new.journal.kept e.out a.out.now c.conclude.new.out clear refl refl refl
     (c.conclude.ensures.sockets ∙ changed)
-    (shared_drafted k a.by a.note c.self.inside.draft c.share.new.self e es told last.neighbours journal a.out.now c.conclude.new.out (record {
+    (shared_drafted k a.by a.note c.self.inside.draft c.share.new.self e es told last.neighbours journal c.conclude.new.journal.kept a.out.now c.conclude.new.out (record {
       own = c.self.invariant.2;
       same = refl;
       tells = c.in_ok-share.ensures.told;
@@ -44,4 +44,5 @@ returns-clause-ok c =
       left = c.conclude.ensures.neighbours;
       leaves = λ frames adds. c.conclude.ensures.frames frames adds;
       recorded_is = c.conclude.ensures.journal ∙ ap (λ fs. fs ++ step_entries (step_of a.by a.note e.work.inside answer.Done)) c.share.ensures.journal;
+      used = c.conclude.ensures.kept ∙ ap (λ k. k - 1) c.share.ensures.kept;
     })))

@@ -1,4 +1,4 @@
-use Rattle.std.proofs.Common.{◌≡◌, ◌∙◌, ◌++◌, ◌∷◌, [], None, if◌then◌else◌, ap, length, sym, subst, arith}
+use Rattle.std.proofs.Common.{◌-◌, ◌≡◌, ◌∙◌, ◌++◌, ◌∷◌, [], None, if◌then◌else◌, ap, length, sym, subst, arith}
 use Rattle.std.specs.Prelude.{slice_index_or}
 use Rattle.tipc_types.specs.Address.{node_word}
 use Rattle.tipc_types.specs.declared.identity.To.TheVariants as to
@@ -65,12 +65,14 @@ returns-clause-found c =
     let wide : length n.neighbours ≡ 33 = ap (λ (k : NodeState). length k.neighbours) c.self.view_is ∙ c.sound.ensures.wide in
     let most = due.1 in
     let told : journal ≡ n.journal ++ step_entries (step_of c.args.by (Arrive d.bearer c.args.number) [] (answer.Arrived (arrival.Took 0))) =
-    c.record.ensures ∙ ap (λ front. front ++ step_entries (step_of c.args.by (Arrive d.bearer c.args.number) c.new.result.items (answer.Arrived (arrival.Took 0)))) c.begin.ensures.journal
+    c.record.ensures.journal ∙ ap (λ front. front ++ step_entries (step_of c.args.by (Arrive d.bearer c.args.number) c.new.result.items (answer.Arrived (arrival.Took 0)))) c.begin.ensures.journal
     ∙ ap (λ inside. n.journal ++ step_entries (step_of c.args.by (Arrive d.bearer c.args.number) inside (answer.Arrived (arrival.Took 0)))) c.new.ensures.items in
-    let last = core_of w.own.word w.boot w.mended now w.ticks w.broadcast c.welcome.new.draft journal in
+    let used = c.record.ensures.kept ∙ ap (λ k. k - 1) c.begin.ensures.kept in
+    let promised = c.record.new.journal.kept in
+    let last = core_of w.own.word w.boot w.mended now w.ticks w.broadcast c.welcome.new.draft journal promised in
     let after =
-    ap (λ z. core_of w.own.word w.boot w.mended now w.ticks w.broadcast z journal) c.welcome.ensures.after
-    ∙ discovered_recorded n c.args.by c.args.number d.peer d.bearer f now journal heard told in
+    ap (λ z. core_of w.own.word w.boot w.mended now w.ticks w.broadcast z journal promised) c.welcome.ensures.after
+    ∙ discovered_recorded n c.args.by c.args.number d.peer d.bearer f now journal promised heard told used in
     let responded = subst (λ own. AddsFirst c.new-event.result c.respond.new.event
     (if is_request d.packet.header then record { bearer = d.bearer; to = to.Node (record { word = node_word d.peer }); frame = discovery_frame own w.boot Response } ∷ [] else []))
     (c.heard.ensures.own ∙ c.self.invariant.4) c.respond.ensures in

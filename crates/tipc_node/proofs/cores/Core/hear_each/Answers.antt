@@ -1,4 +1,4 @@
-use Rattle.std.proofs.Common.{◌≡◌, ℕ, List, Option, None, ap, sym, subst, refl, ◌∙◌}
+use Rattle.std.proofs.Common.{◌-◌, ◌≡◌, ℕ, List, Option, None, ap, sym, subst, refl, ◌∙◌}
 use Rattle.std.specs.Prelude.{is_some, slice_index_or}
 use Rattle.tipc_types.specs.Address.{node_word}
 use Rattle.tipc_header.specs.Spelling.{view}
@@ -57,8 +57,8 @@ returns-in_default-clause-err c =
     let kept = c.in_ok-kept.ensures in
     let casting = put_back_same _ _ c.args.self.now.casting c.hear_in.new.broadcast c.put_back.new.broadcast c.in_ok-kept.kept c.put_back.ensures kept.some kept.none
     (λ same none. c.hear_in.ensures.still same none ∙ ap (λ (n : NodeState). n.casting) c.self.view_is) in (
-      same_parts (the_view c.self.inside) c.args.self.now last.neighbours last.sockets c.hear_in.new.journal.entries c.put_back.new.broadcast back (c.take_back.ensures.sockets ∙ c.in_ok-before.ensures ∙ c.sockets.ensures) c.hear_in.ensures.journal
-          (casting ∙ sym (ap (λ (n : NodeState). n.casting) c.self.view_is)) c.self.view_is,
+      same_parts (the_view c.self.inside) c.args.self.now last.neighbours last.sockets c.hear_in.new.journal.entries c.put_back.new.broadcast c.hear_in.new.journal.kept back (c.take_back.ensures.sockets ∙ c.in_ok-before.ensures ∙ c.sockets.ensures) c.hear_in.ensures.journal
+          (casting ∙ sym (ap (λ (n : NodeState). n.casting) c.self.view_is)) c.hear_in.ensures.kept c.self.view_is,
       refl,
     )
 
@@ -97,5 +97,5 @@ returns-clause-heard c = λ bytes due.
     let same : drafted.work ≡ w = (λ i. work_of (sym c.conclude.ensures.neighbours i) (sym c.conclude.ensures.sockets i) drafted.work.inside) in
     let heard = heard_worked n v c.args.by bytes x.0 d number c.in-Ok.answer w box drafted.out due_here x.1 (subst (λ (u : Work). Worked n.own n.casting v n.neighbours n.sockets x.0 d number c.in-Ok.answer u box drafted.out) same worked) in
     let left = c.conclude.ensures.frames heard.0 (subst (λ b. Adds b drafted.out heard.0) c.self.invariant.0.out heard.2) in
-    journal_heard n c.args.self.now v c.args.by bytes d.bearer number c.in-Ok.answer w c.conclude.new.journal.entries c.hear_in.new.journal.entries c.args.out.now c.conclude.new.out (heard.0, heard.1, left)
-    c.conclude.ensures.journal c.hear_in.ensures.journal c.self.view_is
+    journal_heard n c.args.self.now v c.args.by bytes d.bearer number c.in-Ok.answer w c.conclude.new.journal.entries c.hear_in.new.journal.entries c.conclude.new.journal.kept c.args.out.now c.conclude.new.out (heard.0, heard.1, left)
+    c.conclude.ensures.journal c.hear_in.ensures.journal (c.conclude.ensures.kept ∙ ap (λ k. k - 1) c.hear_in.ensures.kept) c.self.view_is

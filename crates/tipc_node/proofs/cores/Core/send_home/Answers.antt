@@ -1,4 +1,4 @@
-use Rattle.std.proofs.Common.{◌≡◌, ◌++◌, [], List, Option, ap, false, refl, sym, subst, ◌∙◌}
+use Rattle.std.proofs.Common.{◌-◌, ◌≡◌, ◌++◌, [], List, Option, ap, false, refl, sym, subst, ◌∙◌}
 use Rattle.tipc_journal.specs.Room.{JournalState}
 use Rattle.tipc_journal.specs.Steps.{step_entries}
 use Rattle.tipc_ports.specs.Numbers.{PortTable}
@@ -35,7 +35,8 @@ returns-clause-sent c =
     let d = c.self.inside.draft in
     let s = c.settle_alone.new.self.work.sockets in
     let journal = c.record.new.journal.entries in
-    subst (λ (ys : List (Option Neighbour)). (w : Work) × GivesFate n.own (begun n) false c.args.m w [] × (node_of k ys s journal ≡ concluded n c.args.by c.args.note w c.args.sent)) (sym (ap (λ (z : DraftState). z.work.neighbours) c.settle_alone.ensures.rest))
-    (home_sent n k c.args.by c.args.note c.args.m c.args.sent (own_of d) d.work.neighbours s c.new-inside.result.items c.settle_alone.new.inside.items journal
+    subst (λ (ys : List (Option Neighbour)). (w : Work) × GivesFate n.own (begun n) false c.args.m w [] × (node_of k ys s journal c.record.new.journal.kept ≡ concluded n c.args.by c.args.note w c.args.sent)) (sym (ap (λ (z : DraftState). z.work.neighbours) c.settle_alone.ensures.rest))
+    (home_sent n k c.args.by c.args.note c.args.m c.args.sent (own_of d) d.work.neighbours s c.new-inside.result.items c.settle_alone.new.inside.items journal c.record.new.journal.kept
     c.self.view_is c.self.invariant.2 refl c.new-inside.ensures.items c.in_ok-settle_alone.ensures.settles
-    (c.record.ensures ∙ ap (λ es. es ++ step_entries (step_of c.args.by c.args.note c.settle_alone.new.inside.items c.args.sent)) (ap (λ (j : JournalState). j.entries) c.in_ok-reserve.ensures.ok)))
+    (c.record.ensures.journal ∙ ap (λ es. es ++ step_entries (step_of c.args.by c.args.note c.settle_alone.new.inside.items c.args.sent)) (ap (λ (j : JournalState). j.entries) c.in_ok-reserve.ensures.ok))
+    (c.record.ensures.kept ∙ ap (λ (j : JournalState). j.kept - 1) c.in_ok-reserve.ensures.ok))

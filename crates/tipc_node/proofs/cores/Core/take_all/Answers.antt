@@ -1,4 +1,4 @@
-use Rattle.std.proofs.Common.{◌≡◌, ◌<◌, ◌≤◌, length, length-set, ap, refl, ◌∙◌, sym, subst, arith}
+use Rattle.std.proofs.Common.{◌-◌, ◌≡◌, ◌<◌, ◌≤◌, length, length-set, ap, refl, ◌∙◌, sym, subst, arith}
 use Rattle.std.specs.Prelude.{List, None, Some, is_some, slice_set}
 use Rattle.std.proofs.lemmas.List.{get_or-set_other}
 use Rattle.tipc_header.specs.Spelling.{view}
@@ -33,7 +33,7 @@ pub take-requires : goal.take-requires
 take-requires c =
     let g = c.self-inside.inside.0 in
     let dd = g.1.1.1.0 in
-    let n = core_of g.0.word g.1.0 g.1.1.0 g.1.1.1.1.1.0 g.1.1.1.1.1.1.0 g.1.1.1.1.1.1.1.0 (draft_of dd.neighbours.items dd.sockets dd.inside.items dd.copies.items dd.out) g.1.1.1.1.0.entries in
+    let n = core_of g.0.word g.1.0 g.1.1.0 g.1.1.1.1.1.0 g.1.1.1.1.1.1.0 g.1.1.1.1.1.1.1.0 (draft_of dd.neighbours.items dd.sockets dd.inside.items dd.copies.items dd.out) g.1.1.1.1.0.entries g.1.1.1.1.0.kept in
     let whole = ap (λ (k : Inside). the_view k) c.self-inside.view_is ∙ c.self.view_is in
     let d = c.args.due.now in
     let h = c.args.heard in
@@ -88,7 +88,7 @@ pub returns-clause-heard : goal.returns-clause-heard
 returns-clause-heard c = λ bytes due.
     let g = c.self-inside.inside.0 in
     let dd = g.1.1.1.0 in
-    let n = core_of g.0.word g.1.0 g.1.1.0 g.1.1.1.1.1.0 g.1.1.1.1.1.1.0 g.1.1.1.1.1.1.1.0 (draft_of dd.neighbours.items dd.sockets dd.inside.items dd.copies.items dd.out) g.1.1.1.1.0.entries in
+    let n = core_of g.0.word g.1.0 g.1.1.0 g.1.1.1.1.1.0 g.1.1.1.1.1.1.0 g.1.1.1.1.1.1.1.0 (draft_of dd.neighbours.items dd.sockets dd.inside.items dd.copies.items dd.out) g.1.1.1.1.0.entries g.1.1.1.1.0.kept in
     let whole = ap (λ (k : Inside). the_view k) c.self-inside.view_is ∙ c.self.view_is in
     let d = c.args.due.now in
     let h = c.args.heard in
@@ -113,7 +113,7 @@ returns-clause-heard c = λ bytes due.
     let shows = c.requires.shown ∙ ap (λ (k : NodeState). shown k.casting (node_word d.peer)) (sym whole) in
     let shown_is = c.shown-shown.ensures ∙ ap (shown v) c.node.ensures in
     let last = answered_last (begun n) (with_answer (begun n) d.peer d.bearer c.take_state-asks.result c.shown-shown.result y) d.peer d.bearer h.stated v c.take_state-asks.result c.shown-shown.result y c.take_state-asks.new.out c.answer.new.out c.take_state-asks.ensures.asks shown_is (refl, c.answer.ensures.frames) in
-    journal_heard n c.args.self.now v c.args.by bytes d.bearer h.number h.answer (work_of (slice_set n.neighbours d.peer (Some z)) sockets inside) c.conclude_waiting.new.journal.entries c.reserve.new.self.entries c.args.out.now c.answer.new.out
+    journal_heard n c.args.self.now v c.args.by bytes d.bearer h.number h.answer (work_of (slice_set n.neighbours d.peer (Some z)) sockets inside) c.conclude_waiting.new.journal.entries c.reserve.new.self.entries c.conclude_waiting.new.journal.kept c.args.out.now c.answer.new.out
     (taken_all n v c.args.by bytes x y z d h given inside c.in_ok-told.told.messages.items sockets c.args.out.now c.take.new.out c.take_state-asks.new.out c.answer.new.out due_here was within prepared shows heard (took.changes ∙ c.requires.still) refl refl
     (record {
       cast = record { after = c.take_state-asks.ensures.after; adds = c.take_state-asks.ensures.frames };
@@ -121,14 +121,15 @@ returns-clause-heard c = λ bytes due.
       state = last.1;
     })
     (record { inside_is = c.in_ok-told.ensures.entries; messages_are = c.in_ok-told.ensures.messages; sockets_are = c.conclude_waiting.ensures.sockets; sure = sure }))
-    c.conclude_waiting.ensures.journal (ap (λ (j : JournalState). j.entries) c.in_ok-reserve.ensures.ok) whole
+    c.conclude_waiting.ensures.journal (ap (λ (j : JournalState). j.entries) c.in_ok-reserve.ensures.ok)
+    (c.conclude_waiting.ensures.kept ∙ ap (λ (j : JournalState). j.kept - 1) c.in_ok-reserve.ensures.ok) whole
 
 -- a STATE is taken in a contact that stays, so that the peer has joined
 pub take_state-asks-requires-clause-joined : goal.take_state-asks-requires-clause-joined
 take_state-asks-requires-clause-joined c = λ some.
     let g = c.self-inside.inside.0 in
     let dd = g.1.1.1.0 in
-    let n = core_of g.0.word g.1.0 g.1.1.0 g.1.1.1.1.1.0 g.1.1.1.1.1.1.0 g.1.1.1.1.1.1.1.0 (draft_of dd.neighbours.items dd.sockets dd.inside.items dd.copies.items dd.out) g.1.1.1.1.0.entries in
+    let n = core_of g.0.word g.1.0 g.1.1.0 g.1.1.1.1.1.0 g.1.1.1.1.1.1.0 g.1.1.1.1.1.1.1.0 (draft_of dd.neighbours.items dd.sockets dd.inside.items dd.copies.items dd.out) g.1.1.1.1.0.entries g.1.1.1.1.0.kept in
     let whole = ap (λ (k : Inside). the_view k) c.self-inside.view_is ∙ c.self.view_is in
     let d = c.args.due.now in
     let h = c.args.heard in

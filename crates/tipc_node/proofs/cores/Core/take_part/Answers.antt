@@ -1,4 +1,4 @@
-use Rattle.std.proofs.Common.{◌∙◌, ◌++◌, [], List, None, ap, append-nil, arith, fold, length, refl, slice_index_or, subst, sym, take}
+use Rattle.std.proofs.Common.{◌-◌, ◌∙◌, ◌++◌, [], List, None, ap, append-nil, arith, fold, length, refl, slice_index_or, subst, sym, take}
 use Rattle.std.specs.List.{list_all}
 use Rattle.tipc_types.specs.declared.node_calls.Answer.TheVariants as answer
 use Rattle.tipc_types.specs.declared.node_calls.EventNote.{EventNote}
@@ -87,7 +87,7 @@ returns-clause-ok c =
     let front = front_of told [] c.as_slice-2.result.now c.len-changed.result (c.as_slice-2.ensures.value ∙ sym (append-nil told)) (c.len-changed.ensures ∙ c.part_of_all.new.event.inside.ok.0) in
     let sockets = ap (λ (z : DraftState). z.work.sockets) set ∙ ap (λ (es : List Entry). fold after_entry n.sockets es) (front ∙ h.entries) in
     let recorded_is =
-    c.record.ensures
+    c.record.ensures.journal
     ∙ ap (λ (es : List Entry). es ++ step_entries (step_of c.args.by c.upkeep_note.result told answer.Done)) c.take_over.ensures.journal
     ∙ ap (λ (e : EventNote). w.journal.entries ++ step_entries (step_of c.args.by e told answer.Done)) c.upkeep_note.ensures
     ∙ ap (λ (es : List Entry). w.journal.entries ++ step_entries (step_of c.args.by (upkeep_note d) es answer.Done)) h.entries in
@@ -95,9 +95,9 @@ returns-clause-ok c =
     let whole = asked_made os (requests_by d n) no_frames c.part_of_all.new.event.out c.ask.new.event h.frames requests in
     let first = c.append.ensures (record { first = states_all os ++ requests_by d n; behind = numbered_all os }) whole in
     let second = c.append-2.ensures (made_behind (deeds_frames (upkeep_deeds d n) n.casting)) h.casts in
-    let after = takes_from n c.args.by d c.mended_by-self-inside.result c.take_broadcast.new.broadcast last.neighbours last.sockets c.record.new.journal.entries c.mended_by-self-inside.ensures (c.take_broadcast.ensures ∙ h.casting)
-    (ap (λ (z : DraftState). z.work.neighbours) set ∙ h.after_is) sockets recorded_is in
-    let n' : NodeState = record n { mended = c.mended_by-self-inside.result; neighbours = last.neighbours; sockets = last.sockets; journal = c.record.new.journal.entries; casting = c.take_broadcast.new.broadcast } in
+    let after = takes_from n c.args.by d c.mended_by-self-inside.result c.take_broadcast.new.broadcast last.neighbours last.sockets c.record.new.journal.entries c.record.new.journal.kept c.mended_by-self-inside.ensures (c.take_broadcast.ensures ∙ h.casting)
+    (ap (λ (z : DraftState). z.work.neighbours) set ∙ h.after_is) sockets recorded_is (c.record.ensures.kept ∙ ap (λ k. k - 1) c.take_over.ensures.kept) in
+    let n' : NodeState = record n { mended = c.mended_by-self-inside.result; neighbours = last.neighbours; sockets = last.sockets; journal = c.record.new.journal.entries; casting = c.take_broadcast.new.broadcast; promised = c.record.new.journal.kept } in
     subst (λ (m : NodeState). (frames : List Outgoing) × CarriesOut m c.args.by (upkeep_note d) (upkeep_plan m d) n' frames answer.Done × Adds c.args.out.now c.append-2.new.self frames) c.self.view_is (
       upkeep_frames d n,
       (after, refl, refl),

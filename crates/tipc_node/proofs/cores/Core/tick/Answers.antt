@@ -1,4 +1,4 @@
-use Rattle.std.proofs.Common.{◌∙◌, ◌++◌, List, None, ap, arith, fold, length, length-append, map, refl, slice_index_or, subst, sym, take}
+use Rattle.std.proofs.Common.{◌-◌, ◌∙◌, ◌++◌, List, None, ap, arith, fold, length, length-append, map, refl, slice_index_or, subst, sym, take}
 use Rattle.std.specs.List.{list_all}
 use Rattle.tipc_types.specs.declared.node_calls.Answer.TheVariants as answer
 use Rattle.tipc_types.specs.declared.node_calls.EventNote.TheVariants as event
@@ -95,17 +95,17 @@ returns-clause-ok c =
     let numbers = c.as_slice-3.ensures ∙ c.in_ok-due.ensures.numbers ∙ ap (λ (s : SocketTable). due s.watchers.kept) c.sockets.ensures in
     let inside = noted_all ∙ (λ i. h.entries i ++ map entry.TimedOut (numbers i)) in
     let recorded_is =
-    c.record.ensures
+    c.record.ensures.journal
     ∙ ap (λ (es : List Entry). es ++ step_entries (step_of c.args.by event.Tick c.note_timeouts.new.inside.items answer.Done)) c.take_over.ensures.journal
     ∙ ap (λ (es : List Entry). w.journal.entries ++ step_entries (step_of c.args.by event.Tick es answer.Done)) inside in
     let requests = subst (λ (m : NodeState). AddsFirst c.part_of_all.new.event.out c.ask.new.event (requests_by upkeep.Tick m)) (sym c.self.view_is) c.ask.ensures in
     let whole = asked_made os (requests_by upkeep.Tick n) no_frames c.part_of_all.new.event.out c.ask.new.event h.frames requests in
     let first = c.append.ensures (record { first = states_all os ++ requests_by upkeep.Tick n; behind = numbered_all os }) whole in
     let second = c.append-2.ensures (made_behind (deeds_frames (upkeep_deeds upkeep.Tick n) n.casting)) h.casts in
-    let after = ticks_from n c.args.by c.next_tick-self-inside.result c.take_broadcast.new.broadcast last.neighbours between.sockets last.sockets c.record.new.journal.entries c.next_tick-self-inside.ensures.value (c.take_broadcast.ensures ∙ h.casting)
+    let after = ticks_from n c.args.by c.next_tick-self-inside.result c.take_broadcast.new.broadcast last.neighbours between.sockets last.sockets c.record.new.journal.entries c.record.new.journal.kept c.next_tick-self-inside.ensures.value (c.take_broadcast.ensures ∙ h.casting)
     (ap (λ (z : DraftState). z.work.neighbours) c.pass.ensures ∙ ap (λ (z : DraftState). z.work.neighbours) set ∙ h.after_is)
-    sockets (ap (λ (z : DraftState). z.work.sockets) c.pass.ensures) recorded_is in
-    let n' : NodeState = record n { ticks = c.next_tick-self-inside.result; neighbours = last.neighbours; sockets = last.sockets; journal = c.record.new.journal.entries; casting = c.take_broadcast.new.broadcast } in
+    sockets (ap (λ (z : DraftState). z.work.sockets) c.pass.ensures) recorded_is (c.record.ensures.kept ∙ ap (λ k. k - 1) c.take_over.ensures.kept) in
+    let n' : NodeState = record n { ticks = c.next_tick-self-inside.result; neighbours = last.neighbours; sockets = last.sockets; journal = c.record.new.journal.entries; casting = c.take_broadcast.new.broadcast; promised = c.record.new.journal.kept } in
     subst (λ (m : NodeState). (frames : List Outgoing) × CarriesOut m c.args.by event.Tick (tick_plan m) n' frames answer.Done × Adds c.args.out.now c.append-2.new.self frames) c.self.view_is (
       upkeep_frames upkeep.Tick n,
       (after, refl, refl),

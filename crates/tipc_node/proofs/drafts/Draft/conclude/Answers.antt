@@ -28,7 +28,7 @@ record-requires-clause-bytes c =
 pub returns-clause-journal : goal.returns-clause-journal
 returns-clause-journal c =
     let same = ap (λ v. v.items) c.replace-inside.ensures.value ∙ ap (λ (z : DraftState). z.work.inside) c.self.view_is in
-    c.record.ensures ∙ ap (λ (es : List Entry). c.args.journal.now.entries ++ step_entries (step_of c.args.by c.args.note es c.args.answer)) same
+    c.record.ensures.journal ∙ ap (λ (es : List Entry). c.args.journal.now.entries ++ step_entries (step_of c.args.by c.args.note es c.args.answer)) same
 
 pub returns-clause-frames : goal.returns-clause-frames
 returns-clause-frames c = λ frames adds.
