@@ -1,6 +1,6 @@
 -- Deeds at the broadcast link: one list behind another, what stays, and who is in contact after them.
 use Rattle.std.proofs.Common.{◌≡◌, ◌∙◌, ℕ, zero, suc, ◌^◌, ◌+◌, ◌-◌, ◌<◌, ◌≤◌, ◌==◌, Bool, true, false, not, cond, if◌then◌else◌, List, [], ◌∷◌, ◌++◌, Option, Some, None, option_map, filter, fold, refl, sym, ap, subst, append_assoc, arith}
-use Rattle.std.specs.Prelude.{IfSome, drop, is_some, length, nat_lt, replicate, take, unwrap_or}
+use Rattle.std.specs.Prelude.{IfSome, drop, is_some, length, nat_lt, replicate, unwrap_or}
 use Rattle.std.specs.Option.{option_or}
 use Rattle.std.specs.List.{All, find, list_all, position_or_len}
 use Rattle.std.proofs.lemmas.Bool.{and_parts}
@@ -13,12 +13,10 @@ use Rattle.tipc_types.specs.declared.link_words.BroadcastState.{BroadcastState}
 use Rattle.tipc_types.specs.declared.packet_lists.Taken.{Taken}
 use Rattle.tipc_types.specs.declared.link_words.Why.{Why}
 use Rattle.tipc_recv_window.specs.Receiving.{Receiving, drained, filled, fresh, gap_of, gap_to, is_new, missing, past_wanted, run_of, with_packet}
-use Rattle.tipc_send_window.specs.Sending.{acked_of, kept_after}
 use Rattle.tipc_broadcast.specs.declared.contacts.Contact.{Contact}
 use Rattle.tipc_broadcast.specs.Contacts.{acknowledging, carried, heard, is_in_step, is_with, joined, noted_in, refusal, stepped, taken_in, told, with_changed, without}
-use Rattle.tipc_broadcast.specs.Casting.{Casting, accepting, answered, answered_frames, credited, flush_frames, flushed, informed, is_behind, kept_for, leaving, left_frames, left_with, next_start, repeat_frames, room, settled, with_contacts, with_message}
-use Rattle.tipc_broadcast.specs.Deeds.{AreSmall, CastDeed, HasSmallWindow, IsUncast, after_deed, after_deeds, boot_by, boot_with, deed_frames, deeds_frames, is_contact_of, leaves_bearers, sends_nothing}
-use Rattle.tipc_broadcast.specs.Frames.{cast_again, cast_all}
+use Rattle.tipc_broadcast.specs.Casting.{Casting, accepting, answered, credited, flushed, informed, kept_for, leaving, left_with, next_start, settled, with_contacts, with_message}
+use Rattle.tipc_broadcast.specs.Deeds.{AreSmall, CastDeed, HasSmallWindow, after_deed, after_deeds, boot_by, boot_with, deed_frames, deeds_frames, is_contact_of, leaves_bearers}
 
 -- ---- one list behind another
 
@@ -55,7 +53,7 @@ alike_then u v w h k = record { own = k.own ∙ h.own; boot = k.boot ∙ h.boot;
 moved_alike : (v : Casting) → IsAlike v (flushed (settled v))
 moved_alike v = alike_then v (settled v) (flushed (settled v)) (settled_alike v) (flushed_alike (settled v))
 
-left_alike : (contacts : List Contact) (v : Casting) → IsAlike v (left_with contacts v)
+pub left_alike : (contacts : List Contact) (v : Casting) → IsAlike v (left_with contacts v)
 left_alike [] v = record { own = refl; boot = refl; mended = refl; contacts = refl }
 left_alike (c ∷ contacts) v = moved_alike v
 
@@ -63,13 +61,13 @@ kept_alike : (contacts : List Contact) (v : Casting) → IsAlike v (kept_for con
 kept_alike [] v = record { own = refl; boot = refl; mended = refl; contacts = refl }
 kept_alike (c ∷ contacts) v = record { own = refl; boot = refl; mended = refl; contacts = refl }
 
-accepting_alike : (v : Casting) (pieces : List (List ℕ)) → IsAlike v (accepting v pieces)
+pub accepting_alike : (v : Casting) (pieces : List (List ℕ)) → IsAlike v (accepting v pieces)
 accepting_alike v pieces =
     let first : IsAlike v (with_message v pieces) = record { own = refl; boot = refl; mended = refl; contacts = refl } in
     alike_then v (flushed (with_message v pieces)) (accepting v pieces) (alike_then v (with_message v pieces) (flushed (with_message v pieces)) first (flushed_alike (with_message v pieces)))
     (kept_alike v.contacts (flushed (with_message v pieces)))
 
-answered_alike : (v : Casting) (peer number : ℕ) → IsAlike (credited v peer number) (answered v peer number)
+pub answered_alike : (v : Casting) (peer number : ℕ) → IsAlike (credited v peer number) (answered v peer number)
 answered_alike v peer number = moved_alike (credited v peer number)
 
 -- the node and its boot stay
@@ -153,7 +151,7 @@ left_boots w peer (c ∷ cs) = by (left_boots w peer cs) (a == peer) refl ∙ ap
     by later false is = map_cond (a == w) c (find (is_with w) (without peer cs)) ∙ ap (λ o. if a == w then Some c.boot else o) later ∙ left_in a peer w c.boot rest is
 
 -- a change of a contact that leaves whose it is, and the boot
-abbrev LeavesBoot : (Contact → Contact) → Type 0
+abbrev pub LeavesBoot : (Contact → Contact) → Type 0
 LeavesBoot change = (c : Contact) → ((change c).boot ≡ c.boot) × ((change c).peer ≡ c.peer)
 
 changed_boots : (w peer : ℕ) (change : Contact → Contact) (cs : List Contact) → LeavesBoot change → boot_in w (with_changed peer change cs) ≡ boot_in w cs
@@ -170,7 +168,7 @@ changed_boots w peer change (c ∷ cs) keeps = elim (is_with peer c) as (λ b. b
       ∙ sym (map_cond (is_with w c) c (find (is_with w) cs))
 ]
 
-told_keeps : (start next : ℕ) → LeavesBoot (told start next)
+pub told_keeps : (start next : ℕ) → LeavesBoot (told start next)
 told_keeps start next c = noted_keeps (stepped start c) (stepped start c).window (step (is_in_step c))
   where
     step : (b : Bool) → ((if b then c else record c { window = Some (fresh start); shown = start }).boot ≡ c.boot) × ((if b then c else record c { window = Some (fresh start); shown = start }).peer ≡ c.peer)
@@ -181,7 +179,7 @@ told_keeps start next c = noted_keeps (stepped start c) (stepped start c).window
     noted_keeps k None same = same
     noted_keeps k (Some r) same = same
 
-heard_keeps : (own boot members : ℕ) (t : Taken) → LeavesBoot (λ c. heard t c (refusal own boot members c))
+pub heard_keeps : (own boot members : ℕ) (t : Taken) → LeavesBoot (λ c. heard t c (refusal own boot members c))
 heard_keeps own boot members t c = by (refusal own boot members c)
   where
     taken : (o : Option Receiving) → ((taken_in c t o).boot ≡ c.boot) × ((taken_in c t o).peer ≡ c.peer)
@@ -231,86 +229,16 @@ deeds_boots w (d ∷ ds) v = deeds_boots w ds (after_deed d v) ∙ ap (λ o. fol
     by true is = refl
     by false is = ap (λ o. fold (boot_by w) o (filter (is_contact_of w) ds)) (other_boot w (boot_with w v) d is)
 
--- ---- where nothing was broadcast yet
-
-take_none : (n : ℕ) (xs : List (List ℕ)) → xs ≡ [] → take n xs ≡ []
-take_none zero xs none = refl
-take_none (suc n) xs none = ap (take (suc n)) none
-
-drop_none : (n : ℕ) (xs : List (List ℕ)) → xs ≡ [] → drop n xs ≡ []
-drop_none zero xs none = none
-drop_none (suc n) xs none = ap (drop (suc n)) none
-
-both_none : (xs ys : List (List ℕ)) → xs ≡ [] → ys ≡ [] → xs ++ ys ≡ []
-both_none xs ys first second = ap (λ zs. zs ++ ys) first ∙ second
-
-flushed_uncast : (v : Casting) → IsUncast v → IsUncast (flushed v)
-unfolding flushed
-flushed_uncast v h = record {
-  unacked = both_none v.sending.unacked _ h.unacked (take_none (room v.sending) v.sending.waiting h.waiting);
-  waiting = drop_none (room v.sending) v.sending.waiting h.waiting;
-}
-
-flushes_none : (v : Casting) → IsUncast v → flush_frames v ≡ []
-unfolding flush_frames
-flushes_none v h = ap (cast_all v.mended v.sending.numbered) (take_none (room v.sending) v.sending.waiting h.waiting)
-
-settled_uncast : (v : Casting) → IsUncast v → IsUncast (settled v)
-unfolding settled
-settled_uncast v h = record { unacked = drop_none _ v.sending.unacked h.unacked; waiting = h.waiting }
-
-repeats_none : (v : Casting) (acknowledgement gap : ℕ) → IsUncast v → repeat_frames v acknowledgement gap ≡ []
-unfolding repeat_frames
-repeats_none v acknowledgement gap h = ap (λ frames. cast_again v.mended (filter (is_behind acknowledgement gap) (kept_after (acked_of v.sending) frames))) h.unacked
-
--- what a deed makes of it, and its frames
-pub record StaysUncast (d : CastDeed) (v : Casting) : Type 0 where
-  pub after : IsUncast (after_deed d v)
-  pub frames : deed_frames d v ≡ []
-
-left_uncast : (peer : ℕ) (v : Casting) (contacts : List Contact) → IsUncast v → IsUncast (left_with contacts v) × (left_frames contacts v ≡ [])
-left_uncast peer v [] h = (record { unacked = refl; waiting = refl }, refl)
-left_uncast peer v (c ∷ contacts) h = let s = settled_uncast v h in (flushed_uncast (settled v) s, flushes_none (settled v) s)
-
-stated_uncast : (v : Casting) (peer : ℕ) (seen : BroadcastState) (b : Bool) → IsUncast v
-    → IsUncast (if b then answered (informed v peer seen.start seen.next) peer seen.acknowledged else informed v peer seen.start seen.next)
-    × ((if b then answered_frames (informed v peer seen.start seen.next) peer seen.acknowledged seen.gap else []) ≡ [])
-stated_uncast v peer seen true h =
-    let u = credited (informed v peer seen.start seen.next) peer seen.acknowledged in
-    let s = settled_uncast u (record { unacked = h.unacked; waiting = h.waiting }) in (
-      flushed_uncast (settled u) s,
-      ap (λ fs. fs ++ flush_frames (settled u)) (repeats_none (settled u) seen.acknowledged seen.gap s) ∙ flushes_none (settled u) s,
-    )
-stated_uncast v peer seen false h = (record { unacked = h.unacked; waiting = h.waiting }, refl)
-
-pub deed_uncast : (d : CastDeed) (v : Casting) → sends_nothing d ≡ true → IsUncast v → StaysUncast d v
-deed_uncast (CastDeed.joins peer boot) v quiet h = record { after = record { unacked = h.unacked; waiting = h.waiting }; frames = refl }
-deed_uncast (CastDeed.leaves peer) v quiet h =
-    let l = left_uncast peer (with_contacts v (without peer v.contacts)) (without peer v.contacts) (record { unacked = h.unacked; waiting = h.waiting }) in
-    record { after = l.0; frames = l.1 }
-deed_uncast (CastDeed.states peer seen) v quiet h = let s = stated_uncast v peer seen seen.in_step h in record { after = s.0; frames = s.1 }
-deed_uncast (CastDeed.bears bearer is_mended) v quiet h = record { after = record { unacked = h.unacked; waiting = h.waiting }; frames = refl }
-deed_uncast (CastDeed.hears boot members by packet) v quiet h = record { after = record { unacked = h.unacked; waiting = h.waiting }; frames = refl }
-deed_uncast (CastDeed.sends pieces) v quiet h = absurd (let wrong : false ≡ true = quiet in cc)
-
-pub deeds_uncast : (ds : List CastDeed) (v : Casting) → list_all sends_nothing ds ≡ true → IsUncast v → IsUncast (after_deeds ds v) × (deeds_frames ds v ≡ [])
-deeds_uncast [] v quiet h = (h, refl)
-deeds_uncast (d ∷ ds) v quiet h =
-    let parts = and_parts (sends_nothing d) (list_all sends_nothing ds) quiet in
-    let first = deed_uncast d v parts.0 h in
-    let rest = deeds_uncast ds (after_deed d v) parts.1 first.after in
-    (rest.0, ap (λ fs. fs ++ deeds_frames ds (after_deed d v)) first.frames ∙ rest.1)
-
 -- ---- what is held of the peers
 
-changed_small : (peer : ℕ) (change : Contact → Contact) (cs : List Contact) → ((c : Contact) → HasSmallWindow c → HasSmallWindow (change c)) → All HasSmallWindow cs → All HasSmallWindow (with_changed peer change cs)
-changed_small peer change [] keeps all = all
-changed_small peer change (c ∷ cs) keeps all =
-    let first = All-head HasSmallWindow c cs all in
-    let rest = All-tail HasSmallWindow c cs all in
-    elim (is_with peer c) as (λ b. All HasSmallWindow (if b then change c ∷ cs else c ∷ with_changed peer change cs)) [
-      | true ↦ All-cons HasSmallWindow (change c) cs (keeps c first) rest
-      | false ↦ All-cons HasSmallWindow c (with_changed peer change cs) first (changed_small peer change cs keeps rest)
+pub changed_all : (P : Contact → Type 0) (peer : ℕ) (change : Contact → Contact) (cs : List Contact) → ((c : Contact) → P c → P (change c)) → All P cs → All P (with_changed peer change cs)
+changed_all P peer change [] keeps all = all
+changed_all P peer change (c ∷ cs) keeps all =
+    let first = All-head P c cs all in
+    let rest = All-tail P c cs all in
+    elim (is_with peer c) as (λ b. All P (if b then change c ∷ cs else c ∷ with_changed peer change cs)) [
+      | true ↦ All-cons P (change c) cs (keeps c first) rest
+      | false ↦ All-cons P c (with_changed peer change cs) first (changed_all P peer change cs keeps rest)
     ]
 
 told_small : (start next : ℕ) (c : Contact) → HasSmallWindow c → HasSmallWindow (told start next c)
@@ -378,12 +306,12 @@ stated_small v peer seen b small = by b
     u = informed v peer seen.start seen.next
 
     informed_so : AreSmall u
-    informed_so = changed_small peer (told seen.start seen.next) v.contacts (told_small seen.start seen.next) small
+    informed_so = changed_all HasSmallWindow peer (told seen.start seen.next) v.contacts (told_small seen.start seen.next) small
 
     by : (b : Bool) → AreSmall (if b then answered u peer seen.acknowledged else u)
     by true =
         same_small (answered u peer seen.acknowledged) (credited u peer seen.acknowledged) (answered_alike u peer seen.acknowledged).contacts
-        (changed_small peer (acknowledging u.sending.numbered seen.acknowledged) u.contacts (λ c is. is) informed_so)
+        (changed_all HasSmallWindow peer (acknowledging u.sending.numbered seen.acknowledged) u.contacts (λ c is. is) informed_so)
     by false = informed_so
 
 pub deed_small : (d : CastDeed) (v : Casting) → AreSmall v → AreSmall (after_deed d v)
@@ -393,7 +321,7 @@ deed_small (CastDeed.leaves peer) v small =
     same_small (leaving v peer) u (left_alike (without peer v.contacts) u).contacts (All-filter (λ c. not (is_with peer c)) HasSmallWindow v.contacts small)
 deed_small (CastDeed.states peer seen) v small = stated_small v peer seen seen.in_step small
 deed_small (CastDeed.bears bearer is_mended) v small = small
-deed_small (CastDeed.hears boot members by packet) v small = changed_small packet.previous _ v.contacts (heard_small v.own boot members (carried packet by)) small
+deed_small (CastDeed.hears boot members by packet) v small = changed_all HasSmallWindow packet.previous _ v.contacts (heard_small v.own boot members (carried packet by)) small
 deed_small (CastDeed.sends pieces) v small = same_small (accepting v pieces) v (accepting_alike v pieces).contacts small
 
 pub deeds_small : (ds : List CastDeed) (v : Casting) → AreSmall v → AreSmall (after_deeds ds v)

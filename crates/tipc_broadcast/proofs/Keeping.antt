@@ -225,7 +225,7 @@ taken_in-keeps low high t c None h = h
 taken_in-keeps low high t c (Some r) h =
     record { node = h.node; after_release = h.after_release; before_accepted = h.before_accepted; begun = h.begun; free = run_leaves (with_packet r t).held }
 
-heard-keeps : (low high : ℕ) (t : Taken) (c : Contact) (o : Option Why) → IsContact low high c → IsContact low high (heard t c o)
+pub heard-keeps : (low high : ℕ) (t : Taken) (c : Contact) (o : Option Why) → IsContact low high c → IsContact low high (heard t c o)
 heard-keeps low high t c (Some why) h = h
 heard-keeps low high t c None h = taken_in-keeps low high t c c.window h
 

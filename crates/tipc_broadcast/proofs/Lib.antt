@@ -1,7 +1,11 @@
+pub mod Apart
 pub mod Casts
 pub mod Deeds
 pub mod Finding
 pub mod FrameLaws
+pub mod Framed
 pub mod Keeping
+pub mod Lawful
+pub mod Packed
 pub mod SetLaws
 pub mod Shortness

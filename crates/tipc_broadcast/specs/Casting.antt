@@ -1,5 +1,5 @@
 -- The broadcast link of a node in one boot, and what each call makes of it.
-use Rattle.std.specs.Prelude.{ℕ, ◌+◌, ◌-◌, ◌≤◌, ◌&&◌, Bool, false, List, [], ◌∷◌, ◌++◌, All, length, take, drop, filter, map, min, nat_le, nat_lt, replicate, slice_set, Option, Some, None, if◌then◌else◌}
+use Rattle.std.specs.Prelude.{◌≡◌, ◌⊎◌, ℕ, ◌+◌, ◌-◌, ◌≤◌, ◌&&◌, Bool, false, List, [], ◌∷◌, ◌++◌, All, length, take, drop, filter, map, min, nat_le, nat_lt, replicate, slice_set, Option, Some, None, if◌then◌else◌}
 use Rattle.tipc_types.specs.Address.{IsNodeWord}
 use Rattle.tipc_types.specs.Position.{distance_of, number_of}
 use Rattle.tipc_types.specs.declared.link_words.BroadcastState.{BroadcastState}
@@ -12,6 +12,7 @@ use Rattle.tipc_outside.specs.declared.outgoing.Outgoing.{Outgoing}
 use Rattle.tipc_header.specs.Spelling.{Fields}
 use Rattle.tipc_send_window.specs.Sending.{acked_of, fresh, kept_of, offered, passed_over, released, Sending}
 use Rattle.tipc_recv_window.specs.declared.outcomes.LinkOutcome.{LinkOutcome}
+use Rattle.tipc_recv_window.specs.declared.outcomes.LinkOutcome.TheVariants as outcome
 use Rattle.tipc_recv_window.specs.Receiving.{Coming}
 use Rattle.tipc_broadcast.specs.declared.contacts.Contact.{Contact}
 use Rattle.tipc_broadcast.specs.Contacts.{acked_by_all, acknowledging, carried, coming_to, contact_with, heard, heard_outcome, IsContact, joined, member_set, refusal, refusal_to, shown_to, told, with_changed, without}
@@ -183,6 +184,12 @@ arriving v boot members p by = hearing v p.previous boot members (carried p by)
 abbrev pub arriving_outcome : Casting → ℕ → ℕ → Fields → ℕ → LinkOutcome
 arriving_outcome v boot members p by = hearing_outcome v boot members (carried p by) (contact_with p.previous v.contacts)
 
+-- no more packets are taken than a window holds
+abbrev pub TakesFew : LinkOutcome → Type 0
+TakesFew (outcome.Took taken) = length taken ≤ window_size
+TakesFew outcome.Deferred = Unit {0}
+TakesFew (outcome.Ignored reason) = Unit {0}
+
 -- what an arrival will make of the broadcast link: from which node the packet comes, what it makes of the receive window
 -- of that node's broadcast, and what it answers
 pub record CastComing : Type 0 where
@@ -206,6 +213,10 @@ coming_at v boot members p by = record {
 -- why a packet for these members from a boot of a node is ignored before its number is read, where it is
 abbrev pub refusal_of : Casting → ℕ → ℕ → ℕ → Option Why
 refusal_of v boot members previous = refusal_to v.own boot members (contact_with previous v.contacts)
+
+-- no more are unacknowledged than may be, and where packets wait, as many are
+abbrev pub IsPackedCast : Sending → Type 0
+IsPackedCast s = (length s.unacked ≤ window_size) × ((s.waiting ≡ []) ⊎ (length s.unacked ≡ window_size))
 
 -- ---- what is true of every broadcast link
 

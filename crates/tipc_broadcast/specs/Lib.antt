@@ -3,3 +3,4 @@ pub mod Contacts
 pub mod Deeds
 pub mod Frames
 pub mod Laws
+pub mod Pieces

@@ -19,11 +19,13 @@ pub struct CastArriving {
 }
 
 impl Model for CastArriving {
-    ghost use Rattle.tipc_broadcast.specs.Casting.{CastComing};
+    ghost use Rattle.tipc_broadcast.specs.Casting.{CastComing, TakesFew};
 
     ghost Value = { CastComing };
 
     ghost view = { λ a. record { peer = a.peer.word; window = a.window; outcome = a.outcome } };
+
+    ghost invariant = { λ a. TakesFew a.outcome };
 }
 
 impl CastArriving {

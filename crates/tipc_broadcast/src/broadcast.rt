@@ -58,7 +58,7 @@ impl Model for Broadcast {
 impl Broadcast {
     ghost use Rattle.tipc_types.specs.Limits.{most_packet_bytes, window_size};
     ghost use Rattle.tipc_broadcast.specs.Frames.{cast, IsShort, numbered_frame, on_bearer};
-    ghost use Rattle.tipc_broadcast.specs.Casting.{accepting, accepting_frames, answered, answered_frames, arriving, arriving_outcome, booted, coming_at, coming_of, credited, flush_frames, flushed, hearing, informed, IsCasting, joining, kept_for, left_frames, left_with, leaving, leaving_frames, next_start, refusal_of, repeat_frames, room, sent, settled, shown, stating, stating_frames, with_bearer, with_contacts, with_message, with_sending};
+    ghost use Rattle.tipc_broadcast.specs.Casting.{accepting, accepting_frames, answered, answered_frames, arriving, arriving_outcome, booted, coming_at, coming_of, credited, flush_frames, flushed, hearing, informed, IsCasting, joining, kept_for, left_frames, left_with, leaving, leaving_frames, next_start, refusal_of, repeat_frames, room, sent, settled, shown, stating, stating_frames, TakesFew, with_bearer, with_contacts, with_message, with_sending};
     ghost use Rattle.tipc_broadcast.specs.Contacts.{contact_with, deferred_of, has_joined, IsFree, shows_more_to, without};
 
     /// The broadcast link of a node that has just booted: both bearers are cut, and nobody is in contact.
@@ -517,6 +517,7 @@ impl Broadcast {
     pub fn commit(&mut self, cast: CastArriving) -> LinkOutcome
         requires { (boot members by : ℕ) × (p : Fields) × (cast ≡ coming_at self.old boot members p by) }
         ensures outcome { result ≡ cast.outcome }
+        ensures few { TakesFew result }
         ensures after { (boot members by : ℕ) (p : Fields) → cast ≡ coming_at self.old boot members p by →
             self.new ≡ arriving self.old boot members p by }
     {

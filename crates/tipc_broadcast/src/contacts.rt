@@ -7,6 +7,7 @@ ghost use Rattle.tipc_header.specs.Grammar.{Fits};
 ghost use Rattle.tipc_header.specs.Spelling.{view};
 ghost use Rattle.tipc_types.specs.declared.link_words.Why.{Why};
 ghost use Rattle.tipc_types.specs.declared.packet_lists.Taken.{Taken};
+ghost use Rattle.tipc_broadcast.specs.Casting.{TakesFew};
 ghost use Rattle.tipc_broadcast.specs.Contacts.{acked_by_all, acknowledged_to, acknowledging, bit_of, carried, coming_in, coming_to, contact_with, deferred_in, heard, heard_outcome, is_in_step, is_member, is_with, IsContact, IsFree, joined, member_set, noted, outcome_in, refusal, shown_in, shows_more_in, stepped, told};
 
 use crate::receiving::{carried, last_taken};
@@ -173,10 +174,12 @@ impl Contact {
         requires free { IsFree self.now.window }
         ensures window { IfOk result (λ told. told.0 ≡ coming_in (carried (view packet.now) by) self.now.window) }
         ensures outcome { IfOk result (λ told. told.1 ≡ outcome_in (carried (view packet.now) by) self.now.window) }
+        ensures few { IfOk result (λ told. TakesFew told.1) }
     {
         let Some(window) = &self.window else {
             return Ok((None, LinkOutcome::Ignored(Why::OutOfStep)));
         };
+        let _ = window.wanted();
         let (arrival, due) = window.prepare(alloc, carried(alloc, packet, by)?)?;
         let outcome = LinkOutcome::at(arrival.place(), due);
         Ok((Some(arrival), outcome))
@@ -200,6 +203,7 @@ impl Contact {
             (refusal own.word boot members self.now)) }
         ensures outcome { IfOk result (λ told. told.1 ≡ heard_outcome (carried (view packet.now) by) self.now
             (refusal own.word boot members self.now)) }
+        ensures few { IfOk result (λ told. TakesFew told.1) }
         ensures heard_only { OnErr result (refusal own.word boot members self.now ≡ None) }
     {
         match self.refusal(own, boot, members) {

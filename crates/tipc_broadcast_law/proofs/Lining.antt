@@ -16,7 +16,7 @@ use Rattle.tipc_send_window.specs.Sending.{acked_of, IsSending, kept_after, kept
 use Rattle.tipc_broadcast.specs.declared.contacts.Contact.{Contact}
 use Rattle.tipc_broadcast.specs.Contacts.{contact_with, is_member, IsContact, member_set, without}
 use Rattle.tipc_broadcast.specs.Frames.{accepted_frame, cast, cast_again, cast_all, numbered_frame, on_bearer}
-use Rattle.tipc_broadcast.specs.Casting.{accepted, accepting, accepting_frames, answered, answered_frames, Casting, credited, flush_frames, flushed, informed, is_behind, IsCasting, joining, kept_for, leaving, leaving_frames, left_frames, left_with, repeat_frames, room, settled, stating, stating_frames, with_contacts, with_message, with_sending}
+use Rattle.tipc_broadcast.specs.Casting.{accepted, accepting, accepting_frames, advanced, answered, answered_frames, Casting, credited, flush_frames, flushed, informed, is_behind, IsCasting, joining, kept_for, leaving, leaving_frames, left_frames, left_with, repeat_frames, room, settled, stating, stating_frames, with_contacts, with_message, with_sending}
 use Rattle.tipc_broadcast.proofs.FrameLaws.{frames_are_stamped}
 use Rattle.tipc_broadcast.proofs.Keeping.{acked_by_all-below, leave-keeps, offer-keeps, release-keeps, to_release}
 use Rattle.tipc_broadcast.proofs.SetLaws.{sets_have_32_bits, sets_tell_members}
@@ -85,14 +85,14 @@ record IsOfBoot (a : Caster) (boot : ℕ) (line : List Accepted) (n : ℕ) : Typ
   line_is : a.line boot ≡ line
   count : a.numbered boot ≡ n
 
-cast_one : (a : Caster) (own boot : ℕ) (line : List Accepted) (n x bearer number : ℕ) (mended : List Bool) (frame : List ℕ) → IsOfBoot a boot line n → IsFrameAt own boot line x frame → number ≡ number_of (x + 1) → x < n → n < x + 1 + 50 + 246
-    → All (IsCastFrame a own n) (on_bearer mended (numbered_frame number frame) bearer)
-cast_one a own boot line n x bearer number mended frame h is at low high =
+cast_one : (a : Caster) (own boot : ℕ) (line : List Accepted) (n k x bearer number : ℕ) (mended : List Bool) (frame : List ℕ) → IsOfBoot a boot line n → IsFrameAt own boot line x frame → number ≡ number_of (x + 1) → x < n → k < x + 1 + 50 + 246
+    → All (IsCastFrame a own k) (on_bearer mended (numbered_frame number frame) bearer)
+cast_one a own boot line n k x bearer number mended frame h is at low high =
     let bytes = numbered_frame number frame in
     let f : Outgoing = record { bearer = bearer; to = to.All; frame = bytes } in
     let spelled : bytes ≡ frame_of boot is.set (stamped 0 (number_of (x + 1)) own is.entry.packet) =
-    ap (numbered_frame number) is.is ∙ frames_are_stamped own boot is.set number is.entry.packet is.long ∙ ap (λ k. frame_of boot is.set (stamped 0 k own is.entry.packet)) at in
-    let one : IsCastFrame a own n f = record {
+    ap (numbered_frame number) is.is ∙ frames_are_stamped own boot is.set number is.entry.packet is.long ∙ ap (λ j. frame_of boot is.set (stamped 0 j own is.entry.packet)) at in
+    let one : IsCastFrame a own k f = record {
       to_all = refl;
       boot = boot;
       in_boot = (let same = h.boot_is in omega arith);
@@ -105,44 +105,44 @@ cast_one a own boot line n x bearer number mended frame h is at low high =
         entry = is.entry;
         there = ap (λ l. slice_get l x) h.line_is ∙ is.there;
         packet_is = refl;
-        numbered = subst (λ k. x < k) (sym h.count) low;
+        numbered = subst (λ j. x < j) (sym h.count) low;
         members = is.members;
         stamped = high;
       };
     } in
-    elim (slice_index_or mended bearer false) as (λ b. All (IsCastFrame a own n) (if b then f ∷ [] else [])) [
-      | true ↦ All-cons (IsCastFrame a own n) f [] one (All-nil (IsCastFrame a own n))
-      | false ↦ All-nil (IsCastFrame a own n)
+    elim (slice_index_or mended bearer false) as (λ b. All (IsCastFrame a own k) (if b then f ∷ [] else [])) [
+      | true ↦ All-cons (IsCastFrame a own k) f [] one (All-nil (IsCastFrame a own k))
+      | false ↦ All-nil (IsCastFrame a own k)
     ]
 
-cast_both : (a : Caster) (own boot : ℕ) (line : List Accepted) (n x number : ℕ) (mended : List Bool) (frame : List ℕ) → IsOfBoot a boot line n → IsFrameAt own boot line x frame → number ≡ number_of (x + 1) → x < n → n < x + 1 + 50 + 246
-    → All (IsCastFrame a own n) (cast mended number frame)
-cast_both a own boot line n x number mended frame h is at low high =
-    All-append (IsCastFrame a own n) (on_bearer mended (numbered_frame number frame) 0) (on_bearer mended (numbered_frame number frame) 1) (cast_one a own boot line n x 0 number mended frame h is at low high) (cast_one a own boot line n x 1 number mended frame h is at low high)
+cast_both : (a : Caster) (own boot : ℕ) (line : List Accepted) (n k x number : ℕ) (mended : List Bool) (frame : List ℕ) → IsOfBoot a boot line n → IsFrameAt own boot line x frame → number ≡ number_of (x + 1) → x < n → k < x + 1 + 50 + 246
+    → All (IsCastFrame a own k) (cast mended number frame)
+cast_both a own boot line n k x number mended frame h is at low high =
+    All-append (IsCastFrame a own k) (on_bearer mended (numbered_frame number frame) 0) (on_bearer mended (numbered_frame number frame) 1) (cast_one a own boot line n k x 0 number mended frame h is at low high) (cast_one a own boot line n k x 1 number mended frame h is at low high)
 
 -- what moves up
-casts_all : (a : Caster) (own boot : ℕ) (line : List Accepted) (n x : ℕ) (mended : List Bool) (fs : List (List ℕ)) → IsOfBoot a boot line n → AreFramesAt own boot line x fs → x + length fs ≤ n → n < x + 1 + 50 + 246
-    → All (IsCastFrame a own n) (cast_all mended x fs)
-casts_all a own boot line n x mended [] h are low high = All-nil (IsCastFrame a own n)
-casts_all a own boot line n x mended (f ∷ fs) h are low high =
-    All-append (IsCastFrame a own n) (cast mended (number_of (x + 1)) f) (cast_all mended (x + 1) fs) (cast_both a own boot line n x (number_of (x + 1)) mended f h are.0 refl (omega arith) high)
-    (casts_all a own boot line n (x + 1) mended fs h are.1 (omega arith) (omega arith))
+casts_all : (a : Caster) (own boot : ℕ) (line : List Accepted) (n k x : ℕ) (mended : List Bool) (fs : List (List ℕ)) → IsOfBoot a boot line n → AreFramesAt own boot line x fs → x + length fs ≤ n → k < x + 1 + 50 + 246
+    → All (IsCastFrame a own k) (cast_all mended x fs)
+casts_all a own boot line n k x mended [] h are low high = All-nil (IsCastFrame a own k)
+casts_all a own boot line n k x mended (f ∷ fs) h are low high =
+    All-append (IsCastFrame a own k) (cast mended (number_of (x + 1)) f) (cast_all mended (x + 1) fs) (cast_both a own boot line n k x (number_of (x + 1)) mended f h are.0 refl (omega arith) high)
+    (casts_all a own boot line n k (x + 1) mended fs h are.1 (omega arith) (omega arith))
 
 -- a packet beside its number, as it is sent again
-abbrev IsKeptAt : ℕ → ℕ → List Accepted → ℕ → Kept → Type 0
-IsKeptAt own boot line n k = (x : ℕ) × IsFrameAt own boot line x k.packet × (k.number ≡ number_of (x + 1)) × (x < n) × (n < x + 1 + 50 + 246)
+abbrev IsKeptAt : ℕ → ℕ → List Accepted → ℕ → ℕ → Kept → Type 0
+IsKeptAt own boot line n stamp k = (x : ℕ) × IsFrameAt own boot line x k.packet × (k.number ≡ number_of (x + 1)) × (x < n) × (stamp < x + 1 + 50 + 246)
 
-kept_frames : (own boot : ℕ) (line : List Accepted) (n x : ℕ) (fs : List (List ℕ)) → AreFramesAt own boot line x fs → x + length fs ≤ n → n < x + 1 + 50 + 246 → All (IsKeptAt own boot line n) (kept_after x fs)
-kept_frames own boot line n x [] are low high = All-nil (IsKeptAt own boot line n)
-kept_frames own boot line n x (f ∷ fs) are low high =
-    All-cons (IsKeptAt own boot line n) _ (kept_after (x + 1) fs) (x, are.0, refl, omega arith, high) (kept_frames own boot line n (x + 1) fs are.1 (omega arith) (omega arith))
+kept_frames : (own boot : ℕ) (line : List Accepted) (n stamp x : ℕ) (fs : List (List ℕ)) → AreFramesAt own boot line x fs → x + length fs ≤ n → stamp < x + 1 + 50 + 246 → All (IsKeptAt own boot line n stamp) (kept_after x fs)
+kept_frames own boot line n stamp x [] are low high = All-nil (IsKeptAt own boot line n stamp)
+kept_frames own boot line n stamp x (f ∷ fs) are low high =
+    All-cons (IsKeptAt own boot line n stamp) _ (kept_after (x + 1) fs) (x, are.0, refl, omega arith, high) (kept_frames own boot line n stamp (x + 1) fs are.1 (omega arith) (omega arith))
 
-casts_again : (a : Caster) (own boot : ℕ) (line : List Accepted) (n : ℕ) (mended : List Bool) (ks : List Kept) → IsOfBoot a boot line n → All (IsKeptAt own boot line n) ks → All (IsCastFrame a own n) (cast_again mended ks)
-casts_again a own boot line n mended [] h all = All-nil (IsCastFrame a own n)
-casts_again a own boot line n mended (k ∷ ks) h all =
-    let one = All-head (IsKeptAt own boot line n) k ks all in
-    All-append (IsCastFrame a own n) (cast mended k.number k.packet) (cast_again mended ks) (cast_both a own boot line n one.0 k.number mended k.packet h one.1 one.2 one.3 one.4)
-    (casts_again a own boot line n mended ks h (All-tail (IsKeptAt own boot line n) k ks all))
+casts_again : (a : Caster) (own boot : ℕ) (line : List Accepted) (n stamp : ℕ) (mended : List Bool) (ks : List Kept) → IsOfBoot a boot line n → All (IsKeptAt own boot line n stamp) ks → All (IsCastFrame a own stamp) (cast_again mended ks)
+casts_again a own boot line n stamp mended [] h all = All-nil (IsCastFrame a own stamp)
+casts_again a own boot line n stamp mended (k ∷ ks) h all =
+    let one = All-head (IsKeptAt own boot line n stamp) k ks all in
+    All-append (IsCastFrame a own stamp) (cast mended k.number k.packet) (cast_again mended ks) (cast_both a own boot line n stamp one.0 k.number mended k.packet h one.1 one.2 one.3 one.4)
+    (casts_again a own boot line n stamp mended ks h (All-tail (IsKeptAt own boot line n stamp) k ks all))
 
 -- ---- the calls
 
@@ -170,7 +170,7 @@ flush_lines line v window is h =
             (join_frames v.own v.boot line (acked_of s) s.unacked front h.unacked (frames_from v.own v.boot line s.numbered (acked_of s + length s.unacked) front end first));
         waiting = drop_frames v.own v.boot line n s.numbered s.waiting h.waiting;
       };
-      sent = λ a boot line_is count. casts_all a v.own v.boot line (s.numbered + n) s.numbered v.mended front (record { boot_is = boot; line_is = line_is; count = count }) first (omega (arith, long)) (omega (arith, short, few));
+      sent = λ a boot line_is count. casts_all a v.own v.boot line (s.numbered + n) (s.numbered + n + length (drop n s.waiting)) s.numbered v.mended front (record { boot_is = boot; line_is = line_is; count = count }) first (omega (arith, long)) (omega (arith, length-drop n s.waiting, short, few));
     }
 
 -- what moves up, where more is passed over behind it
@@ -181,18 +181,18 @@ flush_sent line v n a is h end at =
     let few = is.few in
     let short : room s ≤ length s.waiting = room_within s in
     let long : length (take (room s) s.waiting) ≡ room s = length-take-le (room s) s.waiting short in
-    casts_all a v.own v.boot line n s.numbered v.mended (take (room s) s.waiting) at (take_frames v.own v.boot line (room s) s.numbered s.waiting h.waiting) (omega (arith, long)) (omega arith)
+    casts_all a v.own v.boot line n n s.numbered v.mended (take (room s) s.waiting) at (take_frames v.own v.boot line (room s) s.numbered s.waiting h.waiting) (omega (arith, long)) (omega arith)
 
 -- what is sent again
-repeat_sent : (line : List Accepted) (v : Casting) (acknowledgement gap n : ℕ) (a : Caster) → IsSending v.sending → IsLined line v → v.sending.numbered ≤ n → n ≤ v.sending.numbered + 246 → IsOfBoot a v.boot line n
-    → All (IsCastFrame a v.own n) (repeat_frames v acknowledgement gap)
+repeat_sent : (line : List Accepted) (v : Casting) (acknowledgement gap n stamp : ℕ) (a : Caster) → IsSending v.sending → IsLined line v → v.sending.numbered ≤ n → stamp ≤ v.sending.numbered + 246 → IsOfBoot a v.boot line n
+    → All (IsCastFrame a v.own stamp) (repeat_frames v acknowledgement gap)
 unfolding repeat_frames
-repeat_sent line v acknowledgement gap n a window h low high at =
+repeat_sent line v acknowledgement gap n stamp a window h low high at =
     let s = v.sending in
     let begun = window.numbered in
     let fifty = window.window in
-    casts_again a v.own v.boot line n v.mended _ at
-    (All-filter (is_behind acknowledgement gap) (IsKeptAt v.own v.boot line n) (kept_of s) (kept_frames v.own v.boot line n (acked_of s) s.unacked h.unacked (omega arith) (omega arith)))
+    casts_again a v.own v.boot line n stamp v.mended _ at
+    (All-filter (is_behind acknowledgement gap) (IsKeptAt v.own v.boot line n stamp) (kept_of s) (kept_frames v.own v.boot line n stamp (acked_of s) s.unacked h.unacked (omega arith) (omega arith)))
 
 settle_lines : (line : List Accepted) (v : Casting) → IsSending v.sending → IsCasting v.own v.sending v.contacts → IsLined line v → IsLined line (settled v)
 unfolding settled
@@ -221,7 +221,7 @@ pub join_lines : (line : List Accepted) (v : Casting) (peer boot : ℕ) → IsLi
 join_lines line v peer boot h = record { unacked = h.unacked; waiting = h.waiting }
 
 left_lines : (line : List Accepted) (v : Casting) (cs : List Contact) → IsSending v.sending → IsCasting v.own v.sending v.contacts → IsLined line v → KeepsLines v.own line (left_with cs v) (left_frames cs v)
-left_lines line v [] window is h = record { lined = nothing_left line v; sent = λ a boot line_is count. All-nil (IsCastFrame a v.own (passed_over v.sending).numbered) }
+left_lines line v [] window is h = record { lined = nothing_left line v; sent = λ a boot line_is count. All-nil (IsCastFrame a v.own (accepted (passed_over v.sending))) }
 left_lines line v (c ∷ cs) window is h = settled_lines line v window is h
 
 pub leave_lines : (line : List Accepted) (v : Casting) (peer : ℕ) → IsSending v.sending → IsCasting v.own v.sending v.contacts → IsLined line v → KeepsLines v.own line (leaving v peer) (leaving_frames v peer)
@@ -253,6 +253,10 @@ offered_lines g v pieces h is long lined =
           (frames_from v.own v.boot (line ++ more) (length line) (s.numbered + length s.waiting) (map (accepted_frame v.own v.boot set) pieces) end (message_frames g v.own v.boot set line pieces (sets_have_32_bits v.contacts (words v.own s v.contacts is)) long members));
     }
 
+-- where all is passed over, as many were accepted as have numbers
+past : (s : Sending) (n : ℕ) → accepted (passed_over (advanced n s)) ≡ s.numbered + n + length (drop n s.waiting)
+past s n = omega arith
+
 kept_lines : (line : List Accepted) (v : Casting) (cs : List Contact) → IsSending v.sending → IsCasting v.own v.sending v.contacts → IsLined line v → KeepsLines v.own line (kept_for cs (flushed v)) (flush_frames v)
 unfolding flushed
 kept_lines line v [] window is h =
@@ -260,7 +264,7 @@ kept_lines line v [] window is h =
     let n = room s in
     let short : n ≤ length s.waiting = room_within s in
     let end : s.numbered + n + length (drop n s.waiting) ≡ s.numbered + length s.waiting = omega (arith, length-drop n s.waiting, short) in
-    record { lined = record { unacked = tt; waiting = tt }; sent = λ a boot line_is count. flush_sent line v (s.numbered + n + length (drop n s.waiting)) a is h end (record { boot_is = boot; line_is = line_is; count = count }) }
+    record { lined = record { unacked = tt; waiting = tt }; sent = λ a boot line_is count. subst (λ k. All (IsCastFrame a v.own k) (flush_frames v)) (sym (past s n)) (flush_sent line v (s.numbered + n + length (drop n s.waiting)) a is h end (record { boot_is = boot; line_is = line_is; count = count })) }
 kept_lines line v (c ∷ cs) window is h = flush_lines line v window is h
 
 pub send_lines : (g : Group) (v : Casting) (pieces : List (List ℕ)) → Casts g v → IsSending (with_message v pieces).sending → IsCasting v.own v.sending v.contacts
@@ -285,8 +289,8 @@ answer_lines line v acknowledgement gap window is h =
     record {
       lined = kept.lined;
       sent = λ a boot line_is count.
-          All-append (IsCastFrame a v.own (flushed w).sending.numbered) (repeat_frames w acknowledgement gap) (flush_frames w)
-          (repeat_sent line w acknowledgement gap (flushed w).sending.numbered a released_window lined (omega arith) (omega (arith, short, few)) (record { boot_is = boot; line_is = line_is; count = count })) (kept.sent a boot line_is count);
+          All-append (IsCastFrame a v.own (accepted (flushed w).sending)) (repeat_frames w acknowledgement gap) (flush_frames w)
+          (repeat_sent line w acknowledgement gap (flushed w).sending.numbered (accepted (flushed w).sending) a released_window lined (omega arith) (omega (arith, length-drop (room w.sending) w.sending.waiting, short, few)) (record { boot_is = boot; line_is = line_is; count = count })) (kept.sent a boot line_is count);
     }
 
 pub state_lines : (line : List Accepted) (v : Casting) (peer : ℕ) (seen : BroadcastState) → IsSending v.sending → IsCasting v.own v.sending v.contacts → IsLined line v
@@ -295,5 +299,5 @@ state_lines line v peer seen window is h =
     let w = informed v peer seen.start seen.next in
     elim seen.in_step as (λ b. KeepsLines v.own line (if b then answered w peer seen.acknowledged else w) (if b then answered_frames w peer seen.acknowledged seen.gap else [])) [
       | true ↦ answer_lines line (credited w peer seen.acknowledged) seen.acknowledged seen.gap window (credited-casting v.own w peer seen.acknowledged (informed-casting v.own v peer seen.start seen.next is)) (record { unacked = h.unacked; waiting = h.waiting })
-      | false ↦ record { lined = record { unacked = h.unacked; waiting = h.waiting }; sent = λ a boot line_is count. All-nil (IsCastFrame a v.own v.sending.numbered) }
+      | false ↦ record { lined = record { unacked = h.unacked; waiting = h.waiting }; sent = λ a boot line_is count. All-nil (IsCastFrame a v.own (accepted v.sending)) }
     ]

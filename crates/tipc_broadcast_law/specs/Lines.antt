@@ -11,7 +11,7 @@ use Rattle.tipc_header.specs.Frames.{frame_of, stamped}
 use Rattle.tipc_send_window.specs.Sending.{acked_of, IsSending}
 use Rattle.tipc_broadcast.specs.Contacts.{is_member}
 use Rattle.tipc_broadcast.specs.Frames.{accepted_frame}
-use Rattle.tipc_broadcast.specs.Casting.{accepting, accepting_frames, Casting, IsCasting, joining, leaving, leaving_frames, stating, stating_frames, with_message}
+use Rattle.tipc_broadcast.specs.Casting.{accepted, accepting, accepting_frames, Casting, IsCasting, joining, leaving, leaving_frames, stating, stating_frames, with_message}
 use Rattle.tipc_broadcast_law.specs.Groups.{Accepted, Caster, Group}
 use Rattle.tipc_broadcast_law.specs.Events.{accepting_entry as accepting_one}
 use Rattle.tipc_broadcast_law.specs.Listening.{IsCastAt}
@@ -37,8 +37,8 @@ pub record IsLined (line : List Accepted) (v : Casting) : Type 0 where
   pub unacked : AreFramesAt v.own v.boot line (acked_of v.sending) v.sending.unacked
   pub waiting : AreFramesAt v.own v.boot line v.sending.numbered v.sending.waiting
 
--- A broadcast frame: to every node, and the packet at a place under the number of that place. `stamp` were numbered after the event that
--- sent it.
+-- A broadcast frame: to every node, and the packet at a place under the number of that place. At most `stamp` were numbered after the event
+-- that sent it.
 pub record IsCastFrame (a : Caster) (own stamp : ℕ) (f : Outgoing) : Type 0 where
   pub to_all : f.to ≡ to.All
   pub boot : ℕ
@@ -52,11 +52,12 @@ pub record IsCastFrame (a : Caster) (own stamp : ℕ) (f : Outgoing) : Type 0 wh
 
 -- ---- what calls make of it
 
--- after a call the lists stand so against this line, and these frames left, of packets that have their numbers then
+-- After a call the lists stand so against this line, and these frames left, of packets that have their numbers then. What is accepted by then
+-- may have got its number too before the event of the call is over.
 pub record KeepsLines (own : ℕ) (line : List Accepted) (v : Casting) (frames : List Outgoing) : Type 0 where
   pub lined : IsLined line v
   pub sent : (a : Caster) → a.boot ≡ v.boot → a.line v.boot ≡ line → a.numbered v.boot ≡ v.sending.numbered
-      → All (IsCastFrame a own v.sending.numbered) frames
+      → All (IsCastFrame a own (accepted v.sending)) frames
 
 -- a message: its packets stand behind all others, for the members in contact
 abbrev pub SendLines : Type 0

@@ -1,8 +1,8 @@
 -- What happens at the caster keeps what is true of it and its members.
-use Rattle.std.proofs.Common.{◌≡◌, ℕ, ◌+◌, ◌<◌, ◌≤◌, true, false, if◌then◌else◌, List, [], ◌++◌, length, map, Option, Some, None, refl, sym, ap, ◌∙◌, subst, append-nil, eqb-true, inl, inr, arith}
+use Rattle.std.proofs.Common.{◌≡◌, ℕ, ◌+◌, ◌<◌, ◌≤◌, true, false, if◌then◌else◌, List, [], ◌∷◌, ◌++◌, length, map, Option, Some, None, refl, sym, ap, ◌∙◌, subst, append-nil, eqb-true, inl, inr, arith}
 use Rattle.std.specs.Prelude.{All}
 use Rattle.std.specs.List.{Contains}
-use Rattle.std.proofs.lemmas.List.Elements.{All-append, All-contains, All-map, All-nil, All-weaker}
+use Rattle.std.proofs.lemmas.List.Elements.{All-append, All-cons, All-contains, All-head, All-map, All-nil, All-tail, All-weaker}
 use Rattle.tipc_types.specs.declared.link_words.BroadcastState.{BroadcastState}
 use Rattle.tipc_outside.specs.declared.outgoing.Outgoing.{Outgoing}
 use Rattle.tipc_send_window.specs.Sending.{IsSending}
@@ -18,15 +18,15 @@ use Rattle.tipc_broadcast_law.proofs.Lining.{join_lines, leave_lines, send_lines
 use Rattle.tipc_broadcast_law.proofs.Places.{put_other, put_same, same_or_not}
 use Rattle.tipc_broadcast_law.proofs.calls.Calls.{join_runs, leave_runs, send_runs}
 use Rattle.tipc_broadcast_law.proofs.calls.Stating.{states_run, told_places_show}
-use Rattle.tipc_casters.specs.Pieces.{IsCastPiece}
-use Rattle.tipc_casters.specs.Sights.{Aired, boot_in, CasterSight, IsAired, IsCast, IsToldBy, MemberSight, Told}
+use Rattle.tipc_broadcast.specs.Pieces.{IsCastPiece}
+use Rattle.tipc_casters.specs.Sights.{Aired, boot_in, CasterSight, IsAired, IsCast, IsSentPiece, IsToldBy, MemberSight, Told}
 use Rattle.tipc_casters.specs.Turns.{aired, IsCall, IsRight, joins, leaves, restarted, sends, states}
 use Rattle.tipc_casters.proofs.Later.{runs_later}
 use Rattle.tipc_casters.proofs.Standing.{aired_later, member_later, same_put, same_side, SameMember}
 
--- a packet that was accepted is one that the node can cast
+-- a packet that was accepted is one that the node can cast, and of its size
 abbrev IsSpelled : ℕ → Accepted → Type 0
-IsSpelled own e = IsCastPiece own e.packet
+IsSpelled own e = IsSentPiece own e.packet
 
 -- What the caster keeps after a turn that leads to a group with this list and these members.
 record IsTurn (a b : CasterSight) (g : Group) (line : List Accepted) (members : ℕ → Member) : Type 0 where
@@ -97,12 +97,12 @@ came g own stamp frames all = All-map (IsAired g own) (λ f. record { frame = f;
 
 -- what left in a call whose list is this one
 left_in : (a : CasterSight) (ms : ℕ → MemberSight) (line : List Accepted) (members : ℕ → Member) (v : Casting) (frames : List Outgoing) (h : IsCast a ms) (leads : Leads h.group line members v) → v.boot ≡ a.casting.boot → KeepsLines a.casting.own line v frames
-    → All (IsAired leads.after a.casting.own) (aired v.sending.numbered frames)
+    → All (IsAired leads.after a.casting.own) (aired (accepted v.sending) frames)
 left_in a ms line members v frames h leads boot keeps =
     let i = leads.after in
     let at : i.caster.boot ≡ v.boot = leads.becomes.boot ∙ h.caster.boot ∙ sym boot in
     let before : h.group.caster.boot ≡ v.boot = h.caster.boot ∙ sym boot in
-    came i a.casting.own v.sending.numbered frames (keeps.sent i.caster at (ap i.caster.line (sym before) ∙ leads.becomes.line_now) (ap i.caster.numbered (sym at) ∙ sym leads.stands.numbered))
+    came i a.casting.own (accepted v.sending) frames (keeps.sent i.caster at (ap i.caster.line (sym before) ∙ leads.becomes.line_now) (ap i.caster.numbered (sym at) ∙ sym leads.stands.numbered))
 
 -- ---- a contact begins
 
@@ -153,7 +153,7 @@ cast_leaves a ms m h call =
     let v = leaving a.casting m in
     let leads = leave_runs g a.casting m h.caster.stands h.caster.window h.caster.casting in
     let keeps = leave_lines (line_of g) a.casting m h.caster.window h.caster.casting h.caster.lined in
-    turned a (leaves a m) ms (line_of g) (put m l g.members) (aired v.sending.numbered (leaving_frames a.casting m)) h leads (record {
+    turned a (leaves a m) ms (line_of g) (put m l g.members) (aired (accepted v.sending) (leaving_frames a.casting m)) h leads (record {
       boot = call.boot;
       own = call.own;
       right = call.right;
@@ -180,6 +180,15 @@ is_that : (c : ℕ) (o : Option ℕ) → is_contact c o ≡ true → o ≡ Some 
 is_that c None is = absurd (let no : ⊥ = cc in no)
 is_that c (Some d) is = ap Some (eqb-true d c is)
 
+-- pieces of their size that can be cast
+sent_pieces : (own : ℕ) (pieces : List (List ℕ)) → All (IsCastPiece own) pieces → All (λ piece. 16 ≤ length piece) pieces → All (λ piece. length piece ≤ 1452) pieces → All (IsSentPiece own) pieces
+sent_pieces own [] cast long short = All-nil (IsSentPiece own)
+sent_pieces own (p ∷ ps) cast long short =
+    let Long : List ℕ → Type 0 = λ piece. 16 ≤ length piece in
+    let Short : List ℕ → Type 0 = λ piece. length piece ≤ 1452 in
+    All-cons (IsSentPiece own) p ps (record { piece = All-head (IsCastPiece own) p ps cast; long = All-head Long p ps long; short = All-head Short p ps short })
+    (sent_pieces own ps (All-tail (IsCastPiece own) p ps cast) (All-tail Long p ps long) (All-tail Short p ps short))
+
 -- the contact in which the caster is with a member is of its present boot
 joined_era : (a : CasterSight) (ms : ℕ → MemberSight) (m c : ℕ) → IsCast a ms → a.joined m ≡ Some c → boot_in c ≡ a.casting.boot
 joined_era a ms m c h is = sym ((h.members m).boots c) ∙ (h.law.each m).joined_boot c (h.caster.joined m ∙ is) ∙ h.caster.boot
@@ -192,7 +201,7 @@ cast_sends a ms pieces h window long short cast few most call =
     let line = line_of g ++ map (accepting_one g) pieces in
     let leads = send_runs g a.casting pieces h.caster.stands window h.caster.casting long short few most in
     let keeps = send_lines g a.casting pieces h.caster.stands window h.caster.casting long short few most h.caster.lined in
-    turned a (sends a pieces) ms line g.members (aired v.sending.numbered (accepting_frames a.casting pieces)) h leads (record {
+    turned a (sends a pieces) ms line g.members (aired (accepted v.sending) (accepting_frames a.casting pieces)) h leads (record {
       boot = call.boot;
       own = call.own;
       right = call.right;
@@ -207,7 +216,7 @@ cast_sends a ms pieces h window long short cast few most call =
         | true ↦ λ yes. (let at = joined_era a ms m c h (is_that c (a.joined m) yes) in absurd (other at))
         | false ↦ λ _. append-nil (a.put m c)
       ] refl;
-      spelled = All-append (IsSpelled a.casting.own) (line_of g) (map (accepting_one g) pieces) (h.caster.spelled g.caster.boot) (All-map (IsSpelled a.casting.own) (accepting_one g) pieces cast);
+      spelled = All-append (IsSpelled a.casting.own) (line_of g) (map (accepting_one g) pieces) (h.caster.spelled g.caster.boot) (All-map (IsSpelled a.casting.own) (accepting_one g) pieces (sent_pieces a.casting.own pieces cast long short));
     }) refl (left_in a ms line g.members v (accepting_frames a.casting pieces) h leads call.boot keeps)
 
 -- ---- a STATE
@@ -219,7 +228,7 @@ stated a ms m seen members h leads sides joined begun same own right =
     let g = h.group in
     let v = stating a.casting m seen in
     let keeps = state_lines (line_of g) a.casting m seen h.caster.window h.caster.casting h.caster.lined in
-    turned a (states a m seen) ms (line_of g) members (aired v.sending.numbered (stating_frames a.casting m seen)) h leads (record {
+    turned a (states a m seen) ms (line_of g) members (aired (accepted v.sending) (stating_frames a.casting m seen)) h leads (record {
       boot = same;
       own = own;
       right = right;

@@ -1,6 +1,13 @@
 pub mod CasterTurns
+pub mod Consistent
+pub mod CasterViews
+pub mod DeedTurns
+pub mod Kept
 pub mod Later
+pub mod MemberCourses
+pub mod MemberMore
 pub mod MemberTurns
+pub mod MemberViews
 pub mod Messages
 pub mod Reading
 pub mod Standing

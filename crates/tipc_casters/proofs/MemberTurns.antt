@@ -26,8 +26,7 @@ use Rattle.tipc_broadcast_law.proofs.MemberEvents.{place-want}
 use Rattle.tipc_broadcast_law.proofs.calls.Stating.{starts_are_shown}
 use Rattle.tipc_broadcast_law.proofs.Places.{put_other, put_same, same_or_not}
 use Rattle.tipc_casters.specs.Later.{IsLater}
-use Rattle.tipc_casters.specs.Pieces.{IsCastPiece}
-use Rattle.tipc_casters.specs.Sights.{Aired, boot_in, CasterSight, IsAired, IsCast, IsCaster, IsMember, IsToldBy, IsToldTo, MemberSight, ReadsAs, Told}
+use Rattle.tipc_casters.specs.Sights.{Aired, boot_in, CasterSight, IsAired, IsCast, IsCaster, IsMember, IsSentPiece, IsToldBy, IsToldTo, MemberSight, ReadsAs, Told}
 use Rattle.tipc_casters.specs.Turns.{enters, hears_packet, is_to_hear, is_told, IsRight, new_caster, new_member, quits, tells, with_member}
 use Rattle.tipc_casters.proofs.Later.{runs_later}
 use Rattle.tipc_casters.proofs.Standing.{aired_later, member_later, same_side, SameMember, told_by_later, told_to_later}
@@ -60,7 +59,7 @@ caster_still g h a m same later seen is =
       begun = λ i c. ap (λ (b : ℕ → Option ℕ). b c) (seen i).begun ∙ is.begun i c;
       put = λ i c. ap (λ (d : Caster). accepted_for i c (d.line (boot_in c))) same ∙ is.put i c;
       sent = All-weaker (IsAired g own) (IsAired h own) (λ f. aired_later g h own f later.caster) a.sent is.sent;
-      spelled = λ f. subst (λ (c : Caster). All (λ (e : Accepted). IsCastPiece own e.packet) (c.line f)) (sym same) (is.spelled f);
+      spelled = λ f. subst (λ (c : Caster). All (λ (e : Accepted). IsSentPiece own e.packet) (c.line f)) (sym same) (is.spelled f);
       boot_fits = is.boot_fits;
       ahead = λ f past. (
           let was = is.ahead f (subst (λ (c : Caster). c.boot < f) same past) in
@@ -232,7 +231,7 @@ member_hears a ms m c boot members f k t h node keeps at there reads fresh =
 -- ---- STATEs come into the air
 
 -- one member's sight changed, and nothing in the law
-seen_anew : (a : CasterSight) (ms : ℕ → MemberSight) (m : ℕ) (s : MemberSight) (h : IsCast a ms) → IsMember h.group m s → IsCast a (with_member ms m s)
+pub seen_anew : (a : CasterSight) (ms : ℕ → MemberSight) (m : ℕ) (s : MemberSight) (h : IsCast a ms) → IsMember h.group m s → IsCast a (with_member ms m s)
 seen_anew a ms m s h is = record {
   group = h.group;
   law = h.law;
@@ -243,9 +242,10 @@ seen_anew a ms m s h is = record {
   ];
 }
 
-pub member_tells : (a : CasterSight) (ms : ℕ → MemberSight) (m next start : ℕ) (k : Contact) (t : Told) → IsCast a ms → (ms m).heard ≡ Some k → (ms m).at ≡ Some t.contact → t.stamp ≡ a.numbered a.casting.boot → t.seen ≡ shown_in next start k.shown k.window
-    → IsCast a (with_member ms m (tells (ms m) t))
-member_tells a ms m next start k t h keeps at stamp shows =
+-- what a STATE of the member tells, in the contact in which it is
+pub tells_place : (a : CasterSight) (ms : ℕ → MemberSight) (m next start : ℕ) (k : Contact) (t : Told) (h : IsCast a ms) → (ms m).heard ≡ Some k → (ms m).at ≡ Some t.contact → t.stamp ≡ a.numbered a.casting.boot → t.seen ≡ shown_in next start k.shown k.window
+    → IsToldBy h.group m t
+tells_place a ms m next start k t h keeps at stamp shows step =
     let g = h.group in
     let n = g.members m in
     let is = h.members m in
@@ -254,7 +254,6 @@ member_tells a ms m next start k t h keeps at stamp shows =
     let here : listens.0 ≡ t.contact = same_Some listens.0 t.contact (sym listens.1 ∙ is.at ∙ at) in
     let window : IsWindow g m t.contact k.window = subst (λ c. IsWindow g m c k.window) here listens.3 in
     let count : t.stamp ≡ numbered_now g.caster = stamp ∙ sym (h.caster.numbered a.casting.boot) ∙ ap g.caster.numbered (sym h.caster.boot) in
-    let told : IsToldBy g m t = λ step.
     let at_place = taken_is_shown g m t.contact next start k.shown k.window window (sym (ap (λ (s : BroadcastState). s.in_step) shows) ∙ step) in
     let w = at_place.0 in
     let begun = keeps_law.want_begun t.contact w at_place.1 in
@@ -270,17 +269,28 @@ member_tells a ms m next start k t h keeps at stamp shows =
         had = omega arith;
         in_window = λ joined. (let near = keeps_law.joined_near t.contact joined in omega (arith, near, count, place_is));
       },
-    ) in
-    seen_anew a ms m (tells (ms m) t) h (record {
+    )
+
+-- STATEs of a member came into the air, each of which tells a place
+pub says_more : (a : CasterSight) (ms : ℕ → MemberSight) (m : ℕ) (more : List Told) (h : IsCast a ms) → All (IsToldBy h.group m) more → IsCast a (with_member ms m (record (ms m) { told = (ms m).told ++ more }))
+says_more a ms m more h all =
+    let is = h.members m in
+    seen_anew a ms m (record (ms m) { told = (ms m).told ++ more }) h (record {
       boots = is.boots;
       at = is.at;
       last = is.last;
       listens = is.listens;
       free = is.free;
       given = is.given;
-      told = All-append (IsToldBy g m) (ms m).told (t ∷ []) is.told (All-cons (IsToldBy g m) t [] told (All-nil (IsToldBy g m)));
+      told = All-append (IsToldBy h.group m) (ms m).told more is.told all;
       hears = is.hears;
     })
+
+pub member_tells : (a : CasterSight) (ms : ℕ → MemberSight) (m next start : ℕ) (k : Contact) (t : Told) → IsCast a ms → (ms m).heard ≡ Some k → (ms m).at ≡ Some t.contact → t.stamp ≡ a.numbered a.casting.boot → t.seen ≡ shown_in next start k.shown k.window
+    → IsCast a (with_member ms m (tells (ms m) t))
+member_tells a ms m next start k t h keeps at stamp shows =
+    let told : IsToldBy h.group m t = tells_place a ms m next start k t h keeps at stamp shows in
+    says_more a ms m (t ∷ []) h (All-cons (IsToldBy h.group m) t [] told (All-nil (IsToldBy h.group m)))
 
 pub caster_tells : (a : CasterSight) (ms : ℕ → MemberSight) (m : ℕ) (t : Told) → IsCast a ms → a.joined m ≡ Some t.contact → t.seen.start ≡ (shown a.casting m).start → IsCast a (with_member ms m (is_to_hear (ms m) t))
 caster_tells a ms m t h joined shows =
@@ -326,7 +336,7 @@ casters_begin own boot right =
         begun = λ m c. refl;
         put = λ m c. nothing_accepted m c;
         sent = All-nil (IsAired g own);
-        spelled = λ f. All-nil (λ (e : Accepted). IsCastPiece own e.packet);
+        spelled = λ f. All-nil (λ (e : Accepted). IsSentPiece own e.packet);
         boot_fits = right.boot;
         ahead = λ f past. (refl, refl);
       };

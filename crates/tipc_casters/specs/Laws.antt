@@ -11,7 +11,7 @@ use Rattle.tipc_send_window.specs.Sending.{IsSending}
 use Rattle.tipc_broadcast.specs.declared.contacts.Contact.{Contact}
 use Rattle.tipc_broadcast.specs.Contacts.{contact_with, shown_in}
 use Rattle.tipc_broadcast.specs.Casting.{accepting, booted, joining, leaving, shown, stating, with_message}
-use Rattle.tipc_casters.specs.Pieces.{IsCastPiece}
+use Rattle.tipc_broadcast.specs.Pieces.{IsCastPiece}
 use Rattle.tipc_casters.specs.Sights.{Aired, boot_in, CasterSight, IsCast, MemberSight, ReadsAs, Told}
 use Rattle.tipc_casters.specs.Turns.{enters, hears_packet, IsCall, is_to_hear, is_told, IsRight, joins, leaves, new_caster, new_member, quits, restarted, sends, states, tells, with_member}
 

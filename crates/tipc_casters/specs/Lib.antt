@@ -1,7 +1,10 @@
 pub mod Later
+pub mod Deeds
 pub mod Laws
+pub mod MemberTurns
 pub mod Messages
-pub mod Pieces
 pub mod Reading
 pub mod Sights
 pub mod Turns
+pub mod Views
+pub mod ViewLaws

@@ -1,5 +1,6 @@
 -- One caster and all its members, as they are seen from outside: what each keeps and did, and what of it is in the air.
-use Rattle.std.specs.Prelude.{◌≡◌, true, ◌+◌, ◌*◌, ◌/◌, ◌<◌, ◌^◌, ℕ, All, List, [], IfSome, Option, Some}
+use Rattle.std.specs.Prelude.{◌≡◌, true, ◌+◌, ◌*◌, ◌/◌, ◌<◌, ◌≤◌, ◌^◌, ℕ, All, List, [], length, IfSome, Option, Some}
+use Rattle.tipc_types.specs.Limits.{most_packet_bytes}
 use Rattle.tipc_types.specs.Position.{number_of}
 use Rattle.tipc_types.specs.declared.link_words.BroadcastState.{BroadcastState}
 use Rattle.tipc_types.specs.declared.packet_lists.Taken.{Taken}
@@ -13,7 +14,7 @@ use Rattle.tipc_broadcast_law.specs.Law.{IsGroup}
 use Rattle.tipc_broadcast_law.specs.Lines.{IsCastFrame, IsLined}
 use Rattle.tipc_broadcast_law.specs.Listening.{IsListening}
 use Rattle.tipc_broadcast_law.specs.Steps.{Casts, line_of, ToldPlace}
-use Rattle.tipc_casters.specs.Pieces.{IsCastPiece}
+use Rattle.tipc_broadcast.specs.Pieces.{IsCastPiece}
 
 -- ---- contacts
 
@@ -27,7 +28,7 @@ boot_in contact = contact / 2 ^ 96
 
 -- ---- what is seen
 
--- a broadcast frame in the air; `stamp` were numbered in its boot after the event that sent it
+-- a broadcast frame in the air; at most `stamp` were numbered in its boot after the event that sent it
 pub record Aired : Type 0 where
   pub frame : Outgoing
   pub stamp : ℕ
@@ -66,6 +67,12 @@ pub record MemberSight : Type 0 where
 
 -- ---- what is true of it
 
+-- A packet that was accepted is one that the node can cast, of 16 to 1,452 bytes.
+pub record IsSentPiece (own : ℕ) (packet : List ℕ) : Type 0 where
+  pub piece : IsCastPiece own packet
+  pub long : 16 ≤ length packet
+  pub short : length packet ≤ most_packet_bytes
+
 -- a frame in the air is one of a packet that has its number
 abbrev pub IsAired : Group → ℕ → Aired → Type 0
 IsAired g own f = IsCastFrame g.caster own f.stamp f.frame
@@ -102,7 +109,7 @@ pub record IsCaster (g : Group) (a : CasterSight) : Type 0 where
   pub put : (m c : ℕ) → accepted_for m c (g.caster.line (boot_in c)) ≡ a.put m c
   pub sent : All (IsAired g a.casting.own) a.sent
   -- each packet that was accepted, in whatever boot, is one that the node can cast, and the boot has 32 bits
-  pub spelled : (f : ℕ) → All (λ (e : Accepted). IsCastPiece a.casting.own e.packet) (g.caster.line f)
+  pub spelled : (f : ℕ) → All (λ (e : Accepted). IsSentPiece a.casting.own e.packet) (g.caster.line f)
   pub boot_fits : a.casting.boot < 2 ^ 32
   -- in later boots nothing was done
   pub ahead : (f : ℕ) → g.caster.boot < f → (g.caster.line f ≡ []) × (g.caster.numbered f ≡ 0)

@@ -1,12 +1,12 @@
 -- What may happen to a caster and its members, and the sights after it.
-use Rattle.std.specs.Prelude.{◌≡◌, ◌<◌, ◌^◌, ℕ, ◌+◌, List, [], ◌∷◌, ◌++◌, map, Some, None, if◌then◌else◌}
+use Rattle.std.specs.Prelude.{◌≡◌, ◌<◌, ◌^◌, ℕ, Bool, ◌+◌, List, [], ◌∷◌, ◌++◌, map, Some, None, if◌then◌else◌}
 use Rattle.tipc_types.specs.declared.link_words.BroadcastState.{BroadcastState}
 use Rattle.tipc_types.specs.declared.packet_lists.Taken.{Taken}
 use Rattle.tipc_outside.specs.declared.outgoing.Outgoing.{Outgoing}
 use Rattle.tipc_send_window.specs.Sending.{IsSending}
 use Rattle.tipc_broadcast.specs.declared.contacts.Contact.{Contact}
 use Rattle.tipc_broadcast.specs.Contacts.{heard, heard_outcome, joined, refusal, told}
-use Rattle.tipc_broadcast.specs.Casting.{accepted, accepting, accepting_frames, booted, Casting, IsCasting, joining, leaving, leaving_frames, stating, stating_frames}
+use Rattle.tipc_broadcast.specs.Casting.{accepted, accepting, accepting_frames, booted, Casting, hearing, IsCasting, joining, leaving, leaving_frames, stating, stating_frames, with_bearer}
 use Rattle.tipc_broadcast_law.specs.Groups.{is_contact, put}
 use Rattle.tipc_broadcast_law.specs.Listening.{given}
 use Rattle.tipc_casters.specs.Sights.{Aired, boot_in, CasterSight, MemberSight, Told}
@@ -25,16 +25,16 @@ pub record IsCall (v after : Casting) : Type 0 where
 
 -- ---- at the caster
 
--- frames with the count after the event that sent them
+-- frames that left; no more get a number in the event that sent them than this
 abbrev pub aired : ℕ → List Outgoing → List Aired
 aired stamp frames = map (λ f. record { frame = f; stamp = stamp }) frames
 
--- after a call of its broadcast link in which these frames left
+-- after a call of its broadcast link in which these frames left: what is accepted may get its number before the event is over
 abbrev pub called : CasterSight → Casting → List Outgoing → CasterSight
 called a v frames = record a {
   casting = v;
   numbered = put a.casting.boot v.sending.numbered a.numbered;
-  sent = a.sent ++ aired v.sending.numbered frames;
+  sent = a.sent ++ aired (accepted v.sending) frames;
 }
 
 -- a contact with a member begins; `boot` is the member's
@@ -58,6 +58,14 @@ sends a pieces = record (called a (accepting a.casting pieces) (accepting_frames
 -- a STATE of a member is taken
 abbrev pub states : CasterSight → ℕ → BroadcastState → CasterSight
 states a m seen = called a (stating a.casting m seen) (stating_frames a.casting m seen)
+
+-- a bearer is mended or cut
+abbrev pub bears : CasterSight → ℕ → Bool → CasterSight
+bears a bearer is_mended = record a { casting = with_bearer a.casting bearer is_mended }
+
+-- a broadcast packet of another node arrives, from its boot and for these members
+abbrev pub hears_other : CasterSight → ℕ → ℕ → ℕ → Taken → CasterSight
+hears_other a peer boot members t = record a { casting = hearing a.casting peer boot members t }
 
 -- the caster in its next boot
 abbrev pub restarted : CasterSight → CasterSight
@@ -83,6 +91,10 @@ hears_packet s m c boot members k t = record s {
   heard = Some (heard t k (refusal m boot members k));
   given = put c (s.given c ++ given (heard_outcome t k (refusal m boot members k))) s.given;
 }
+
+-- its broadcast link keeps this of the caster
+abbrev pub listens_as : MemberSight → Contact → MemberSight
+listens_as s k = record s { heard = Some k }
 
 -- a STATE comes into the air, of a member to the caster or of the caster to it
 abbrev pub tells : MemberSight → Told → MemberSight

@@ -11,7 +11,7 @@ use Rattle.tipc_script.specs.declared.lines.Destination.TheVariants as destinati
 use Rattle.tipc_script.specs.declared.lines.Line.{Line}
 use Rattle.tipc_script.specs.declared.lines.Line.TheVariants as line
 use Rattle.tipc_script.specs.Splitting.{tokens_of}
-use Rattle.tipc_script.specs.Kinds.{is_remark, number_of, pattern}
+use Rattle.tipc_script.specs.Kinds.{form_in, is_remark, number_of, pattern}
 use Rattle.tipc_script.specs.Grammar.{Row, cut_row, flow_row, mend_row, nodes_of, publish_row, receive_row, row_nodes, row_of, send_row, settle_row, socket_row}
 use Rattle.tipc_script.specs.Spelling.{Asks, spaced, spelling_of}
 use Rattle.tipc_script.proofs.Acceptance.{left_behind}
@@ -186,7 +186,7 @@ publish_line n p k l u y h p-low k-low l-low u-low y-low =
 
 send_line : (n p k i c : ℕ) → IsOfFour n → p ≤ 5000 → k ≤ 5000 → i ≤ 5000 → c ≤ 5000
     → IsSoundLine (line.Send n p (destination.Name k i) level.Low (pattern c))
-unfolding row_of
+unfolding row_of form_in
 send_line n p k i c h p-low k-low i-low c-low =
     let node = short_number n (omega (arith, h.1)) in
     let port = short_number p p-low in
@@ -270,6 +270,7 @@ sound_line (line.Send node port (destination.Name kind instance) importance body
     subst (λ (w : Importance). IsSoundLine (line.Send node port (destination.Name kind instance) w body)) (sym h.least)
     (subst (λ (b : List ℕ). IsSoundLine (line.Send node port (destination.Name kind instance) level.Low b)) (sym h.told)
     (send_line node port kind instance h.count h.from_node h.from_port h.type_fits h.instance_fits h.few))
+sound_line (line.Send node port (destination.Cast kind lower upper) importance body) h = absurd h
 sound_line (line.Repeat times node port to importance body) h = absurd h
 sound_line (line.Arrive node bearer frame) h = absurd h
 sound_line (line.Receive node port) h = receive_line node port h.0 h.1

@@ -12,6 +12,7 @@ use Rattle.tipc_types.specs.declared.services.Publication.{Publication}
 use Rattle.tipc_outside.specs.declared.outgoing.Outgoing.{Outgoing}
 use Rattle.tipc_outside.specs.Frames.{Adds, Out}
 use Rattle.tipc_journal.specs.Licensed.{IsPicked, IsPickedOf}
+use Rattle.tipc_send_window.specs.Sending.{IsSending}
 use Rattle.tipc_sockets.specs.SocketTables.{AreSockets}
 use Rattle.tipc_node.specs.Arrivals.{Arrived, Arrives}
 use Rattle.tipc_node.specs.Calls.{CanPerform, HasInstances, IsPickedFrom, Performed, Performs}
@@ -41,21 +42,21 @@ held_of n k = (k.told, k.named, k.packed, k.shares, k.found, k.cast)
 abbrev pub IsDone : NodeState → By → EventNote → NodeState → Out → Out → Answer → Type 0
 IsDone n by call n' box box' answered = (frames : List Outgoing) × Performs n by call n' frames answered × Adds box box' frames
 
-performed_by : (n n' : NodeState) (by : By) (call : EventNote) (box box' : Out) (answered : Answer) → Held n → AreSockets n'.sockets → length n'.neighbours ≡ 33 → CanPerform call → HasInstances call → IsDone n by call n' box box' answered → Performed n by call n' box box' answered
-performed_by n n' by call box box' answered held sound wide can ranges d =
-    record { frames = d.0; performs = d.1; turn = performs_kept n n' by call d.0 answered (kept_of n held) can ranges d.1 sound wide; adds = d.2 }
+performed_by : (n n' : NodeState) (by : By) (call : EventNote) (box box' : Out) (answered : Answer) → Held n → AreSockets n'.sockets → length n'.neighbours ≡ 33 → IsSending n'.casting.sending → CanPerform call → HasInstances call → IsDone n by call n' box box' answered → Performed n by call n' box box' answered
+performed_by n n' by call box box' answered held sound wide sending can ranges d =
+    record { frames = d.0; performs = d.1; turn = performs_kept n n' by call d.0 answered (kept_of n held) can ranges d.1 sound wide sending; adds = d.2 }
 
-pub call_performed : {E : Type 0} (n n' : NodeState) (by : By) (call : EventNote) (box box' : Out) (r : Result Answer E) → Held n → AreSockets n'.sockets → length n'.neighbours ≡ 33 → CanPerform call → HasInstances call → IfOk r (IsDone n by call n' box box')
+pub call_performed : {E : Type 0} (n n' : NodeState) (by : By) (call : EventNote) (box box' : Out) (r : Result Answer E) → Held n → AreSockets n'.sockets → length n'.neighbours ≡ 33 → IsSending n'.casting.sending → CanPerform call → HasInstances call → IfOk r (IsDone n by call n' box box')
     → IfOk r (Performed n by call n' box box')
-call_performed n n' by call box box' r held sound wide can ranges done =
-    IfOk-weaker r (IsDone n by call n' box box') (Performed n by call n' box box') (λ a. performed_by n n' by call box box' a held sound wide can ranges) done
+call_performed n n' by call box box' r held sound wide sending can ranges done =
+    IfOk-weaker r (IsDone n by call n' box box') (Performed n by call n' box box') (λ a. performed_by n n' by call box box' a held sound wide sending can ranges) done
 
-pub call_kept : {E : Type 0} (n n' : NodeState) (by : By) (call : EventNote) (box box' : Out) (r : Result Answer E) → Held n → AreSockets n'.sockets → length n'.neighbours ≡ 33 → CanPerform call → HasInstances call → IfOk r (IsDone n by call n' box box') → OnErr r (n' ≡ n)
+pub call_kept : {E : Type 0} (n n' : NodeState) (by : By) (call : EventNote) (box box' : Out) (r : Result Answer E) → Held n → AreSockets n'.sockets → length n'.neighbours ≡ 33 → IsSending n'.casting.sending → CanPerform call → HasInstances call → IfOk r (IsDone n by call n' box box') → OnErr r (n' ≡ n)
     → Held n'
-call_kept n n' by call box box' (Ok a) held sound wide can ranges done same =
-    let p = performed_by n n' by call box box' a held sound wide can ranges done in
+call_kept n n' by call box box' (Ok a) held sound wide sending can ranges done same =
+    let p = performed_by n n' by call box box' a held sound wide sending can ranges done in
     held_of n' (turn_kept n n' by call [] (kept_answer a) p.frames (kept_of n held) p.turn)
-call_kept n n' by call box box' (Err e) held sound wide can ranges done same = subst Held (sym same) held
+call_kept n n' by call box box' (Err e) held sound wide sending can ranges done same = subst Held (sym same) held
 
 -- ---- an arrival
 
@@ -63,22 +64,22 @@ call_kept n n' by call box box' (Err e) held sound wide can ranges done same = s
 abbrev pub IsMet : NodeState → By → ℕ → ℕ → List ℕ → NodeState → Out → Out → Arrival → Type 0
 IsMet n by bearer number bytes n' box box' answered = (frames : List Outgoing) × Arrives n n' by bearer number bytes frames answered × Adds box box' frames
 
-arrived_by : (n n' : NodeState) (by : By) (bearer number : ℕ) (bytes : List ℕ) (box box' : Out) (answered : Arrival) → Held n → AreSockets n'.sockets → IsMet n by bearer number bytes n' box box' answered
+arrived_by : (n n' : NodeState) (by : By) (bearer number : ℕ) (bytes : List ℕ) (box box' : Out) (answered : Arrival) → Held n → AreSockets n'.sockets → IsSending n'.casting.sending → IsMet n by bearer number bytes n' box box' answered
     → Arrived n by bearer number bytes n' box box' answered
-arrived_by n n' by bearer number bytes box box' answered held sound d =
-    record { frames = d.0; arrives = d.1; turn = arrives_kept n n' by bearer number bytes d.0 answered (kept_of n held) d.1 sound; adds = d.2 }
+arrived_by n n' by bearer number bytes box box' answered held sound sending d =
+    record { frames = d.0; arrives = d.1; turn = arrives_kept n n' by bearer number bytes d.0 answered (kept_of n held) d.1 sound sending; adds = d.2 }
 
-pub frame_arrived : {E : Type 0} (n n' : NodeState) (by : By) (bearer number : ℕ) (bytes : List ℕ) (box box' : Out) (r : Result Arrival E) → Held n → AreSockets n'.sockets → IfOk r (IsMet n by bearer number bytes n' box box')
+pub frame_arrived : {E : Type 0} (n n' : NodeState) (by : By) (bearer number : ℕ) (bytes : List ℕ) (box box' : Out) (r : Result Arrival E) → Held n → AreSockets n'.sockets → IsSending n'.casting.sending → IfOk r (IsMet n by bearer number bytes n' box box')
     → IfOk r (Arrived n by bearer number bytes n' box box')
-frame_arrived n n' by bearer number bytes box box' r held sound met =
-    IfOk-weaker r (IsMet n by bearer number bytes n' box box') (Arrived n by bearer number bytes n' box box') (λ a. arrived_by n n' by bearer number bytes box box' a held sound) met
+frame_arrived n n' by bearer number bytes box box' r held sound sending met =
+    IfOk-weaker r (IsMet n by bearer number bytes n' box box') (Arrived n by bearer number bytes n' box box') (λ a. arrived_by n n' by bearer number bytes box box' a held sound sending) met
 
-pub arrival_kept : {E : Type 0} (n n' : NodeState) (by : By) (bearer number : ℕ) (bytes : List ℕ) (box box' : Out) (r : Result Arrival E) → Held n → AreSockets n'.sockets → IfOk r (IsMet n by bearer number bytes n' box box')
+pub arrival_kept : {E : Type 0} (n n' : NodeState) (by : By) (bearer number : ℕ) (bytes : List ℕ) (box box' : Out) (r : Result Arrival E) → Held n → AreSockets n'.sockets → IsSending n'.casting.sending → IfOk r (IsMet n by bearer number bytes n' box box')
     → OnErr r (n' ≡ n) → Held n'
-arrival_kept n n' by bearer number bytes box box' (Ok a) held sound met same =
-    let p = arrived_by n n' by bearer number bytes box box' a held sound met in
+arrival_kept n n' by bearer number bytes box box' (Ok a) held sound sending met same =
+    let p = arrived_by n n' by bearer number bytes box box' a held sound sending met in
     held_of n' (turn_kept n n' by (event.Arrive bearer number) bytes (answer.Arrived a) p.frames (kept_of n held) p.turn)
-arrival_kept n n' by bearer number bytes box box' (Err e) held sound met same = subst Held (sym same) held
+arrival_kept n n' by bearer number bytes box box' (Err e) held sound sending met same = subst Held (sym same) held
 
 -- ---- what an error leaves
 

@@ -30,7 +30,7 @@ promising_shares n calls h = record {
 }
 
 promising_cast : (n : NodeState) (calls : ℕ) → AreCast n → AreCast (promising n calls)
-promising_cast n calls h = record { joined = h.joined; small = h.small; uncast = h.uncast }
+promising_cast n calls h = record { node = h.node; own = h.own; boot = h.boot; joined = h.joined; small = h.small; framed = h.framed }
 
 -- where calls are promised, and where there is no memory for that
 pub reserved_held : {T E : Type 0} (r : Result T E) (n n' : NodeState) (calls : ℕ) → OnOk r (n' ≡ promising n calls) → OnErr r (n' ≡ n) → Held n → Held n'

@@ -6,6 +6,7 @@ pub mod Fating
 pub mod FirstTold
 pub mod Happening
 pub mod LearntTold
+pub mod MulticastsTold
 pub mod NameCalls
 pub mod Naming
 pub mod Noting

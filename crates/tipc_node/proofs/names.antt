@@ -2,6 +2,7 @@
 pub mod SharedNames
 pub mod SharingArrivals
 pub mod SharingCalls
+pub mod SharingCasts
 pub mod SharingDelivered
 pub mod SharingEntries
 pub mod SharingFlows

@@ -1,11 +1,16 @@
 -- Each call and each arrival is a turn of the node: one recorded step, and what happens at each pair.
 pub mod Arrivals
+pub mod CastArrivals
+pub mod CastFrames
 pub mod CastKept
+pub mod CastPieces
 pub mod Discovering
 pub mod Entries
 pub mod Discovery
 pub mod FoundKept
+pub mod Lawful
 pub mod MessageRuns
+pub mod Multicasting
 pub mod Named
 pub mod Parts
 pub mod Performing
@@ -13,3 +18,4 @@ pub mod Plain
 pub mod Runs
 pub mod Shares
 pub mod Turning
+pub mod Upkeeping

@@ -3,6 +3,7 @@ pub mod Announcing
 pub mod Answering
 pub mod Arriving
 pub mod Casting
+pub mod Casts
 pub mod Changes
 pub mod Deliveries
 pub mod Delivering
@@ -14,6 +15,7 @@ pub mod Hearings
 pub mod Homing
 pub mod Loads
 pub mod Making
+pub mod Multicasts
 pub mod Neighbouring
 pub mod Planned
 pub mod Posted

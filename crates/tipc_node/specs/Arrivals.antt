@@ -13,7 +13,7 @@ use Rattle.tipc_types.specs.declared.node_calls.EventNote.TheVariants.{Arrive}
 use Rattle.tipc_types.specs.declared.services.Publication.{Publication}
 use Rattle.tipc_outside.specs.declared.outgoing.Outgoing.{Outgoing}
 use Rattle.tipc_outside.specs.Frames.{Adds, Out}
-use Rattle.tipc_header.specs.declared.frames.FrameKind.TheVariants.{Finds, Links}
+use Rattle.tipc_header.specs.declared.frames.FrameKind.TheVariants.{Casts, Finds, Links}
 use Rattle.tipc_header.specs.Frames.{frame_of, kind_in}
 use Rattle.tipc_header.specs.Grammar.{Fits}
 use Rattle.tipc_header.specs.Spelling.{Fields, spelling}
@@ -27,6 +27,7 @@ use Rattle.tipc_pair.specs.Courses.{Course, sent_in}
 use Rattle.tipc_pair.specs.PairTurns.{Outset}
 use Rattle.tipc_node.specs.declared.neighbours.Neighbour.{Neighbour}
 use Rattle.tipc_node.specs.Calls.{CallTurn}
+use Rattle.tipc_node.specs.CastArrivals.{HearsCast}
 use Rattle.tipc_node.specs.Casting.{arrival_deeds, asks_of, stated_in}
 use Rattle.tipc_node.specs.Discovery.{discovered_frames, discovered_node, responses}
 use Rattle.tipc_node.specs.Neighbours.{HearsAt, answered_neighbour, answering, heard_neighbour}
@@ -145,12 +146,13 @@ pub record Discovers (n n' : NodeState) (by : By) (bearer number : ℕ) (bytes :
 
 -- ---- any frame
 
--- a frame arrived on a bearer: it was stopped, or it brought a link packet, or a discovery packet
+-- a frame arrived on a bearer: it was stopped, or it brought a link packet, or a discovery packet, or a broadcast packet
 pub record Arrives (n n' : NodeState) (by : By) (bearer number : ℕ) (bytes : List ℕ) (frames : List Outgoing) (answered : Arrival) : Type 0 where
   pub stopped : (reason : Why) → stop_of n bearer bytes ≡ Some reason
       → (n' ≡ stopped_node n by bearer number reason) × (frames ≡ []) × (answered ≡ arrival.Ignored reason)
   pub heard : stop_of n bearer bytes ≡ None → kind_in bytes ≡ Links → Hears n n' by bearer number bytes frames answered
   pub discovered : stop_of n bearer bytes ≡ None → kind_in bytes ≡ Finds → Discovers n n' by bearer number bytes frames answered
+  pub cast : stop_of n bearer bytes ≡ None → kind_in bytes ≡ Casts → HearsCast n n' by bearer number bytes frames answered
 
 -- it arrived, and what left is in the box
 pub record Arrived (n : NodeState) (by : By) (bearer number : ℕ) (bytes : List ℕ) (n' : NodeState) (box box' : Out) (answered : Arrival) : Type 0 where

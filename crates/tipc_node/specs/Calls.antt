@@ -9,6 +9,7 @@ use Rattle.tipc_types.specs.declared.node_calls.EventNote.TheVariants.{Socket, C
 use Rattle.tipc_types.specs.declared.services.Publication.{Publication}
 use Rattle.tipc_outside.specs.declared.outgoing.Outgoing.{Outgoing}
 use Rattle.tipc_outside.specs.Frames.{Adds, Out}
+use Rattle.tipc_send_window.specs.Sending.{IsSending}
 use Rattle.tipc_broadcast.specs.Deeds.{after_deeds}
 use Rattle.tipc_journal.specs.declared.entries.Entry.{Entry}
 use Rattle.tipc_journal.specs.Licensed.{IsPickedOf, next_answer}
@@ -20,12 +21,13 @@ use Rattle.tipc_node.specs.declared.neighbours.Upkeep.{Upkeep}
 use Rattle.tipc_node.specs.declared.neighbours.Upkeep.TheVariants as upkeep
 use Rattle.tipc_node.specs.Discovery.{AreFound, next_tick, upkeep_frames}
 use Rattle.tipc_node.specs.Messages.{direct, limit_of, named}
+use Rattle.tipc_node.specs.Multicasts.{multicast_plan}
 use Rattle.tipc_node.specs.Nodes.{NodeState, after_all, entries_all, mended_by, parts_of, step_of, upkeep_deeds}
 use Rattle.tipc_node.specs.Plans.{CarriesOut, Plan, frames_alone, message_plan, names_plan, or_else, tables_plan}
 use Rattle.tipc_node.specs.Sockets.{cancelled_work, closed_work, first_answer, first_event, found_at, kept_answer, next_number, next_port, next_work, number_refusal, passed_work, port_refusal, publication_refusal, published_work, received_work, socket_refusal, subscribed_work, subscription_refusal, timeouts_of, told_closing, told_withdrawal, waiting_at, with_sockets_of, withdrawal_refusal, withdrawn_work}
 use Rattle.tipc_node.specs.Sharing.{SharesNames}
 use Rattle.tipc_node.specs.Telling.{IsTold}
-use Rattle.tipc_node.specs.Turns.{NodeTurn}
+use Rattle.tipc_node.specs.Turns.{HaveJoined, NodeTurn}
 use Rattle.tipc_node.specs.Works.{Work, begun, noted}
 
 -- ---- messages
@@ -79,8 +81,7 @@ tick_plan n = record (tables_plan n None (tick_work n) answer.Done) {
 
 -- ---- a call of a user, of the clock, or of a bearer
 
--- The plan of each call, where a message by name goes to this publication. A multicast isn't built yet, and an arrival is no call: what stands
--- here for them is never carried out.
+-- The plan of each call, where a message by name goes to this publication. An arrival is no call: what stands here for it is never carried out.
 abbrev pub plan_of : NodeState → EventNote → Option Publication → Plan
 plan_of n Socket chosen = tables_plan n (socket_refusal n.sockets) (with_sockets_of (begun n) (with_socket n.sockets (next_port n.sockets))) (answer.Socket (next_port n.sockets))
 plan_of n (Close port) chosen = names_plan n (port_refusal n.sockets port) (closed_work n port) (told_closing n.sockets port)
@@ -89,6 +90,8 @@ plan_of n (Publish port range scope key) chosen =
 plan_of n (Withdraw port key) chosen = names_plan n (withdrawal_refusal n.sockets port key) (withdrawn_work n port key) (told_withdrawal n.sockets port key)
 plan_of n (SendName port kind instance importance body) chosen = name_plan n port kind instance importance body chosen
 plan_of n (SendPort port to importance body) chosen = message_plan n (sender_refusal n port body) (direct n.own port to importance body) (limit_of importance) answer.Sent
+plan_of n (Multicast port kind lower upper importance body) chosen =
+    multicast_plan n (sender_refusal n port body) port (record { kind = kind; lower = lower; upper = upper }) importance body
 plan_of n (Receive port) chosen = tables_plan n (port_refusal n.sockets port) (received_work n port) (first_answer (waiting_at n.sockets port))
 plan_of n (Subscribe asked) chosen = tables_plan n (subscription_refusal n.sockets asked) (subscribed_work n asked) (answer.Subscribed (next_number n.sockets))
 plan_of n (Cancel number) chosen = tables_plan n (number_refusal n.sockets number) (cancelled_work n number) answer.Done
@@ -98,10 +101,9 @@ plan_of n (Cut bearer) chosen = upkeep_plan n (upkeep.Cut bearer)
 plan_of n (Mend bearer) chosen = upkeep_plan n (upkeep.Mend bearer)
 plan_of n other chosen = tables_plan n None (begun n) answer.Done
 
--- only a message by name has a choice; a multicast and an arrival aren't performed
+-- only a message by name has a choice; an arrival isn't performed
 abbrev pub IsChosen : NodeState → EventNote → Option Publication → Type 0
 IsChosen n (SendName port kind instance importance body) chosen = IsChoice (found_at n kind instance) chosen
-IsChosen n (Multicast port kind lower upper importance body) chosen = ⊥
 IsChosen n (Arrive bearer number) chosen = ⊥
 IsChosen n other chosen = chosen ≡ None
 
@@ -111,7 +113,7 @@ pub record Performs (n : NodeState) (by : By) (call : EventNote) (n' : NodeState
   pub choice : IsChosen n call chosen
   pub carried : CarriesOut n by call (plan_of n call chosen) n' frames answered
 
--- What a call needs of its arguments: what is mended or cut is one of the two bearers. A multicast isn't built yet, and an arrival isn't performed.
+-- What a call needs of its arguments: what is mended or cut is one of the two bearers. An arrival isn't performed.
 abbrev pub CanPerform : EventNote → Type 0
 CanPerform Socket = Unit {0}
 CanPerform (Close port) = Unit {0}
@@ -119,6 +121,7 @@ CanPerform (Publish port range scope key) = Unit {0}
 CanPerform (Withdraw port key) = Unit {0}
 CanPerform (SendName port kind instance importance body) = Unit {0}
 CanPerform (SendPort port to importance body) = Unit {0}
+CanPerform (Multicast port kind lower upper importance body) = Unit {0}
 CanPerform (Receive port) = Unit {0}
 CanPerform (Subscribe asked) = Unit {0}
 CanPerform (Cancel number) = Unit {0}
@@ -142,14 +145,17 @@ HasInstances (Publish port range scope key) = range.lower ≤ range.upper
 HasInstances other = Unit {0}
 
 -- A call in the form that all have: a step with this answer was recorded, and it tells of the node's turns. The journal tells of the
--- node before and after, the node shares its names with its peers, and it has a link end to each peer that it found.
+-- node before and after, the node shares its names with its peers, it has a link end to each peer that it found, just the peers in contact have
+-- joined its broadcast link, and the send window of that link is one.
 pub record CallTurn (n n' : NodeState) (by : By) (note : EventNote) (bytes : List ℕ) (kept : Answer) (frames : List Outgoing) : Type 0 where
   pub inside : List Entry
   pub turn : NodeTurn n n' bytes (step_of by note inside kept) frames
   pub told_before : IsTold n
+  pub joined_before : HaveJoined n
   pub told : IsTold n'
   pub shared : SharesNames n'
   pub found : AreFound n'
+  pub sending : IsSending n'.casting.sending
 
 -- it was performed, and what left is in the box
 pub record Performed (n : NodeState) (by : By) (call : EventNote) (n' : NodeState) (box box' : Out) (answered : Answer) : Type 0 where

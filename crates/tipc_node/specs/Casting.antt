@@ -11,13 +11,13 @@ use Rattle.tipc_broadcast.specs.Casting.{Casting}
 use Rattle.tipc_broadcast.specs.Contacts.{shows_more_to}
 use Rattle.tipc_broadcast.specs.Deeds.{CastDeed, after_deeds}
 use Rattle.tipc_broadcast.specs.Deeds.CastDeed.{bears, joins, leaves, states}
-use Rattle.tipc_journal.specs.declared.entries.Entry.{Entry}
-use Rattle.tipc_journal.specs.declared.entries.Entry.TheVariants as entry
 use Rattle.tipc_pair.specs.declared.changes.PairOutcome.{PairOutcome}
 use Rattle.tipc_pair.specs.declared.transitions.Transition.{Transition}
 use Rattle.tipc_pair.specs.declared.transitions.Transition.TheVariants.{ContactDown, ContactUp}
 use Rattle.tipc_pair.specs.Contacts.{is_of_contact}
 use Rattle.tipc_pair.specs.Facing.{PairEnds, contact_between}
+use Rattle.tipc_pair.specs.PairTurns.{Opening}
+use Rattle.tipc_pair.specs.PairTurns.Opening.{hears}
 use Rattle.tipc_node.specs.declared.neighbours.Upkeep.{Upkeep}
 use Rattle.tipc_node.specs.declared.neighbours.Upkeep.TheVariants as upkeep
 
@@ -36,15 +36,6 @@ deed_of peer other = []
 -- what the changes of the links to a peer, and of the contact with it, make of the broadcast link
 abbrev pub contact_deeds : ℕ → List Transition → List CastDeed
 contact_deeds peer changes = flat_map (deed_of peer) changes
-
--- what a step's entry tells of the broadcast link: the begin or the end of a contact
-abbrev pub deed_told : Entry → List CastDeed
-deed_told (entry.ContactUp peer contact) = joins peer.word (boot_of_contact contact.1) ∷ []
-deed_told (entry.ContactDown peer contact gone shown) = leaves peer.word ∷ []
-deed_told other = []
-
-abbrev pub deeds_told : List Entry → List CastDeed
-deeds_told entries = flat_map deed_told entries
 
 -- where there was contact or not, it begins or ends once at most
 abbrev pub IsContactChange : Bool → List Transition → Type 0
@@ -82,6 +73,11 @@ abbrev pub stated_in : Header → PairOutcome → Option BroadcastState
 stated_in (header.State said) (PairOutcome.Took opened) = Some (broadcast_in said)
 stated_in said given = None
 
+-- the same of what happened first at the pair to a peer, and gave this
+abbrev pub stated_by : Opening → PairOutcome → Option BroadcastState
+stated_by (hears bearer es er p by shown) given = stated_in p.header given
+stated_by other given = None
+
 -- the STATE of a peer is taken
 abbrev pub state_deeds : ℕ → Option BroadcastState → List CastDeed
 state_deeds peer None = []
@@ -109,6 +105,14 @@ abbrev pub bearer_deeds : Upkeep → List CastDeed
 bearer_deeds (upkeep.Mend bearer) = bears bearer true ∷ []
 bearer_deeds (upkeep.Cut bearer) = bears bearer false ∷ []
 bearer_deeds upkeep.Tick = []
+
+-- ---- the deeds of one event
+
+-- whether a bearer is mended or cut by a deed, or a peer leaves
+abbrev pub is_parting : CastDeed → Bool
+is_parting (bears bearer is_mended) = true
+is_parting (leaves peer) = true
+is_parting other = false
 
 -- ---- who is in contact
 

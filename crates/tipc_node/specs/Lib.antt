@@ -1,10 +1,13 @@
 pub mod Arrivals
 pub mod Calls
+pub mod CastArrivals
+pub mod CastHearings
 pub mod Casting
 pub mod Drafts
 pub mod Discovery
 pub mod Hearings
 pub mod Messages
+pub mod Multicasts
 pub mod Neighbours
 pub mod Nodes
 pub mod Partings

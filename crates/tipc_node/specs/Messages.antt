@@ -1,7 +1,11 @@
 -- The messages that a node sends, and their packets.
-use Rattle.std.specs.Prelude.{◌≡◌, ℕ, false, List, [], Option, Some, None}
+use Rattle.std.specs.Prelude.{◌≡◌, ◌≤◌, ℕ, Bool, true, false, List, [], All, length, Option, Some, None, if◌then◌else◌}
+use Rattle.tipc_types.specs.Limits.{most_packet_bytes}
+use Rattle.tipc_types.specs.Span.{Span}
 use Rattle.tipc_types.specs.declared.identity.Addr.{Addr}
 use Rattle.tipc_types.specs.declared.identity.PortId.{PortId}
+use Rattle.tipc_types.specs.declared.message_forms.Flow.{Flow}
+use Rattle.tipc_types.specs.declared.message_forms.Flow.TheVariants.{Zero, One, Broadcast}
 use Rattle.tipc_types.specs.declared.message_forms.Form.TheVariants as form
 use Rattle.tipc_types.specs.declared.message_forms.Importance.{Importance}
 use Rattle.tipc_types.specs.declared.message_forms.Importance.TheVariants.{Low, Medium, High, Critical}
@@ -10,6 +14,7 @@ use Rattle.tipc_types.specs.declared.message_forms.Message.TheVariants.{Payload,
 use Rattle.tipc_header.specs.Grammar.{Fits}
 use Rattle.tipc_header.specs.Reading.{fields_at}
 use Rattle.tipc_header.specs.Spelling.{Fields, spelling}
+use Rattle.tipc_journal.specs.Dues.{nowhere}
 use Rattle.tipc_message.specs.Wire.{message_of, packet_of}
 
 -- ---- packets
@@ -34,6 +39,28 @@ pub record IsSendable (own : ℕ) (m : Message) : Type 0 where
 abbrev pub message_in : List ℕ → Option Message
 message_in packet = message_of (fields_at packet)
 
+-- whether there is a message, and it is one of name items
+abbrev pub is_of_items : Option Message → Bool
+is_of_items None = false
+is_of_items (Some (Items withdrawal items)) = true
+is_of_items (Some (Payload importance form from to kind lower upper code droppable body)) = false
+
+-- the message that is delivered in a flow, of one that a packet carries: name items are told to each peer by itself, so none is broadcast
+abbrev pub in_flow : Flow → Option Message → Option Message
+in_flow Zero m = m
+in_flow One m = m
+in_flow Broadcast m = if is_of_items m then None else m
+
+-- the message that a packet carries in a flow, where it carries one
+abbrev pub message_in_flow : Flow → List ℕ → Option Message
+message_in_flow flow packet = in_flow flow (message_in packet)
+
+-- packets as a broadcast link takes them of one message: each has a header, and a packet's bytes at most, and they are 47 at most
+pub record ArePieces (pieces : List (List ℕ)) : Type 0 where
+  pub long : All (λ piece. 16 ≤ length piece) pieces
+  pub short : All (λ piece. length piece ≤ most_packet_bytes) pieces
+  pub few : length pieces ≤ 47
+
 -- ---- users' messages
 
 -- how many packets may wait before a message of this importance is congested
@@ -54,6 +81,10 @@ direct own port to importance body = Payload importance form.Direct (port_id own
 -- a message by name, to the port that the name found
 abbrev pub named : ℕ → ℕ → PortId → ℕ → ℕ → Importance → List ℕ → Message
 named own port to kind instance importance body = Payload importance form.Named (port_id own port) to kind instance instance 0 false body
+
+-- a message to each port that offers in a range
+abbrev pub multicast : ℕ → ℕ → Span → Importance → List ℕ → Message
+multicast own port range importance body = Payload importance form.Multicast (port_id own port) nowhere range.kind range.lower range.upper 0 true body
 
 -- the node that a message is for
 abbrev pub destination_of : Message → Addr

@@ -1,10 +1,13 @@
 -- What a node keeps of a peer, and what each call makes of it.
-use Rattle.std.specs.Prelude.{◌≤◌, ℕ, Bool, true, List}
+use Rattle.std.specs.Prelude.{◌≡◌, ◌≤◌, ℕ, Bool, true, List, if◌then◌else◌}
+use Rattle.std.specs.List.{list_any}
 use Rattle.tipc_types.specs.Address.{node_word}
 use Rattle.tipc_types.specs.declared.link_words.BroadcastState.{BroadcastState}
 use Rattle.tipc_outside.specs.declared.outgoing.Outgoing.{Outgoing}
 use Rattle.tipc_header.specs.Spelling.{Fields}
 use Rattle.tipc_pair.specs.declared.transitions.Transition.{Transition}
+use Rattle.tipc_fragments.specs.Joining.{Joining, fresh}
+use Rattle.tipc_pair.specs.Contacts.{is_of_contact}
 use Rattle.tipc_pair.specs.Courses.{Course}
 use Rattle.tipc_pair.specs.Facing.{PairEnds, alone}
 use Rattle.tipc_pair.specs.PairCalls.{answered_near, at_bearer, cut_near, mended, ticked}
@@ -18,9 +21,17 @@ use Rattle.tipc_node.specs.declared.neighbours.Upkeep.TheVariants as upkeep
 abbrev pub with_pair : Neighbour → PairEnds → Neighbour
 with_pair x pair = record x { pair = pair }
 
+-- a neighbour of whose broadcast this is begun
+abbrev pub with_casts : Neighbour → Joining → Neighbour
+with_casts x joining = record x { casts = joining }
+
+-- what is begun of a peer's broadcast after these changes: nothing, where a contact with it began or ended
+abbrev pub casts_after : Joining → List Transition → Joining
+casts_after joining changes = if list_any is_of_contact changes then fresh else joining
+
 -- a peer of a node with this address word, in this boot, to which no link end is made yet
 abbrev pub stranger : ℕ → ℕ → ℕ → Neighbour
-stranger own peer boot = record { pair = alone own (node_word peer) boot }
+stranger own peer boot = record { pair = alone own (node_word peer) boot; casts = fresh }
 
 -- a link end is made on a bearer, which is mended
 abbrev pub making : ℕ → Neighbour → Course
@@ -51,7 +62,7 @@ pub record Done : Type 0 where
 
 -- the neighbour where that became of its pair
 abbrev pub done_by : Neighbour → Course → Done
-done_by x c = record { after = with_pair x c.pair; states = c.states; numbered = c.numbered; changes = c.changes }
+done_by x c = record { after = record { pair = c.pair; casts = casts_after x.casts c.changes }; states = c.states; numbered = c.numbered; changes = c.changes }
 
 -- what a bearer that is mended or cut, or a tick, makes of a neighbour
 abbrev pub done : Upkeep → BroadcastState → Neighbour → Done
@@ -62,6 +73,7 @@ done d shown x = done_by x (course_of d shown x)
 -- the packets of a message are put on the active link, and nothing else changes
 pub record PutsThere (x : Neighbour) (pieces : List (List ℕ)) (x' : Neighbour) (frames : List Outgoing) : Type 0 where
   pub puts : PutsOne x.pair pieces x'.pair frames
+  pub casts : x'.casts ≡ x.casts
 
 -- ---- an arrival
 
@@ -72,7 +84,7 @@ HearsAt x bearer es er p number shown o = Happened x.pair (hears bearer es er p 
 
 -- what an arrival makes of a neighbour before the STATE that is due leaves
 abbrev pub heard_neighbour : Neighbour → Outset → Neighbour
-heard_neighbour x o = with_pair x o.course.pair
+heard_neighbour x o = record { pair = o.course.pair; casts = casts_after x.casts o.course.changes }
 
 -- The STATE that is due on a bearer leaves, and shows this of the broadcast link. The arrival may have asked for it by the broadcast.
 abbrev pub answering : ℕ → Bool → BroadcastState → Neighbour → Course

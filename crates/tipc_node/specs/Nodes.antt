@@ -41,7 +41,7 @@ use Rattle.tipc_node.specs.declared.neighbours.Neighbour.{Neighbour}
 use Rattle.tipc_node.specs.declared.neighbours.Upkeep.{Upkeep}
 use Rattle.tipc_node.specs.declared.neighbours.Upkeep.TheVariants as upkeep
 use Rattle.tipc_types.specs.Limits.{most_frame_bytes}
-use Rattle.tipc_node.specs.Messages.{message_in}
+use Rattle.tipc_node.specs.Messages.{message_in_flow}
 use Rattle.tipc_broadcast.specs.Casting.{Casting, shown}
 use Rattle.tipc_broadcast.specs.Deeds.{CastDeed, after_deeds}
 use Rattle.tipc_node.specs.Casting.{bearer_deeds, contact_deeds}
@@ -275,7 +275,7 @@ delivered_by flow peer contact None number = entry.Dropped 0
 
 -- what a member of what was given comes to: its entry, and its message where it has one
 abbrev pub delivery_of : Flow → ℕ → ℕ × ℕ → Opened → Delivery
-delivery_of flow peer contact (Whole packet number) = record { entry = delivered_by flow peer contact (message_in packet) number; message = message_in packet }
+delivery_of flow peer contact (Whole packet number) = record { entry = delivered_by flow peer contact (message_in_flow flow packet) number; message = message_in_flow flow packet }
 delivery_of flow peer contact (Passed place) = record { entry = entry.Dropped place; message = None }
 
 -- what all that was given in a flow of a contact comes to, in order
@@ -322,11 +322,11 @@ unfoldable pub is_other : ℕ → ℕ → Bool
 is_other own word = nat_lt (node_word 0) word && (nat_le word (node_word 32) && not (word == own))
 
 -- What stops a packet of another node, by its kind: a discovery packet has to be of the network, whether its sender is known or not; for a
--- link packet there has to be a link end to the sender on the bearer. Each broadcast packet is stopped, since there is no broadcast link yet.
+-- link packet there has to be a link end to the sender on the bearer, and for a broadcast packet on some bearer.
 abbrev pub stop_by_kind : FrameKind → Header → ℕ → Option Neighbour → Option Why
 stop_by_kind Finds header bearer place = if is_of_network header then None else Some why.Network
 stop_by_kind Links header bearer place = if is_some (end_with bearer place) then None else Some why.Unknown
-stop_by_kind Casts header bearer place = if is_some place then Some why.Epoch else Some why.Unknown
+stop_by_kind Casts header bearer place = if is_some place then None else Some why.Unknown
 
 -- the sender that a frame names has to be another of the 32 nodes; then it goes by the kind of the packet
 abbrev pub stop_by_sender : ℕ → List (Option Neighbour) → ℕ → ℕ → FrameKind → Header → Option Why

@@ -10,7 +10,7 @@ use Rattle.tipc_types.specs.declared.node_calls.EventNote.{EventNote}
 use Rattle.tipc_outside.specs.declared.outgoing.Outgoing.{Outgoing}
 use Rattle.tipc_journal.specs.Dues.{comes_home}
 use Rattle.tipc_broadcast.specs.Casting.{Casting}
-use Rattle.tipc_node.specs.Messages.{destination_of}
+use Rattle.tipc_node.specs.Messages.{IsSendable, destination_of}
 use Rattle.tipc_node.specs.Nodes.{NodeState, load_with, recorded}
 use Rattle.tipc_node.specs.Sockets.{crowd_refusal, kept_answer}
 use Rattle.tipc_node.specs.Works.{GivesFate, GoesAway, TellsPeers, Work, addr_of_word, begun, concluded, neighbour_at}
@@ -33,11 +33,13 @@ pub record GoesItsWay (own : ℕ) (w : Work) (m : Message) (w' : Work) (frames :
 
 -- ---- plans
 
--- What a call sends behind its work: these frames alone; or every peer in contact is told by these messages; or a message goes its way.
+-- What a call sends behind its work: these frames alone; or every peer in contact is told by these messages; or a message goes its way; or a
+-- message is cast to all peers at once, in these frames.
 pub data Dispatch : Type 0 where
   frames_alone : List Outgoing → Dispatch
   to_peers : List Message → Dispatch
   on_its_way : Message → Dispatch
+  to_all : Message → List Outgoing → Dispatch
 
 -- A call's plan. It is refused for this reason, where there is one. Else this is its work on the node's own tables, with what is noted of it, then
 -- it sends this, and it is answered; the bearers that are mended, the ticks and the broadcast link are these ones then.
@@ -82,6 +84,7 @@ Does (to_peers told) n by call p n' frames answered =
     (last : Work) × TellsPeers n.own p.work told last frames × (n' ≡ concluded_by n by call p last) × (answered ≡ p.answered)
 Does (on_its_way m) n by call p n' frames answered =
     (last : Work) × GoesItsWay n.own p.work m last frames × (n' ≡ concluded_by n by call p last) × (answered ≡ p.answered)
+Does (to_all m given) n by call p n' frames answered = IsSendable n.own m × (n' ≡ concluded_by n by call p p.work) × (frames ≡ given) × (answered ≡ p.answered)
 
 -- a call that is refused is recorded with the reason, and nothing else happens
 abbrev pub DoesUnless : Option Answer → NodeState → By → EventNote → Plan → NodeState → List Outgoing → Answer → Type 0

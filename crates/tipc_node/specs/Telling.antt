@@ -7,9 +7,10 @@ use Rattle.tipc_types.specs.declared.identity.Addr.{Addr}
 use Rattle.tipc_types.specs.declared.node_calls.Answer.{Answer}
 use Rattle.tipc_types.specs.declared.node_calls.Answer.TheVariants as answer
 use Rattle.tipc_types.specs.declared.node_calls.EventNote.{EventNote}
-use Rattle.tipc_types.specs.declared.node_calls.EventNote.TheVariants.{SendName, SendPort}
+use Rattle.tipc_types.specs.declared.node_calls.EventNote.TheVariants.{Multicast, SendName, SendPort}
 use Rattle.tipc_types.specs.declared.services.Publication.{Publication}
 use Rattle.tipc_types.specs.Limits.{window_size}
+use Rattle.tipc_broadcast.specs.Casting.{IsPackedCast}
 use Rattle.tipc_journal.specs.declared.entries.Entry.{Entry}
 use Rattle.tipc_journal.specs.Contacts.{contact, up_epochs}
 use Rattle.tipc_journal.specs.Counting.{AllAnsweredToCallers}
@@ -53,15 +54,16 @@ pub record TellsSockets (n : NodeState) : Type 0 where
 abbrev pub IsFull : EventNote → Answer → Type 0
 IsFull (SendName port kind instance importance body) (answer.Congested in_flight waiting) = (in_flight ≡ window_size) × (limit_of importance ≤ waiting)
 IsFull (SendPort port to importance body) (answer.Congested in_flight waiting) = (in_flight ≡ window_size) × (limit_of importance ≤ waiting)
+IsFull (Multicast port kind lower upper importance body) (answer.Congested in_flight waiting) = (in_flight ≡ window_size) × (limit_of importance ≤ waiting)
 IsFull event answered = Unit {0}
 
 -- so it was with each step of a journal
 abbrev pub AllFull : List Entry → Type 0
 AllFull entries = All (λ p. IsFull p.step.event p.step.answer) (steps entries)
 
--- so it is at the pair to each neighbour of a node
+-- so it is at the pair to each neighbour of a node, and at its broadcast link
 abbrev pub ArePacked : NodeState → Type 0
-ArePacked n = (b : ℕ) (x : Neighbour) → neighbour_of n b ≡ Some x → IsPackedPair x.pair
+ArePacked n = ((b : ℕ) (x : Neighbour) → neighbour_of n b ≡ Some x → IsPackedPair x.pair) × IsPackedCast n.casting.sending
 
 -- A node's journal tells what the node is: its links and contacts, and what its sockets hold. What the journal tells
 -- was lawful: each step was licensed and answered to its caller, and each message had its fate.

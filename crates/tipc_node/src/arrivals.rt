@@ -11,6 +11,7 @@ ghost use Rattle.tipc_broadcast.specs.Casting.{shown};
 ghost use Rattle.tipc_pair.specs.Contacts.{is_of_contact};
 ghost use Rattle.tipc_node.specs.Turns.{HaveJoined};
 ghost use Rattle.tipc_node.specs.Arrivals.{Arrives, BringsDiscovery, IsDue};
+ghost use Rattle.tipc_node.specs.CastArrivals.{BringsCast};
 ghost use Rattle.tipc_node.specs.Discovery.{AreFound};
 ghost use Rattle.tipc_node.specs.Hearings.{told_changes, HearsDue, IsDueAt, IsPrepared};
 ghost use Rattle.tipc_journal.specs.Room.{free_entries, has_journal_room};
@@ -40,8 +41,8 @@ fn put_back(broadcast: &mut Broadcast, kept: Option<Broadcast>)
 
 impl Core {
     /// A frame arrives on a bearer; `number` is its number among all that arrived at this node. A packet that it
-    /// brings to a link is heard there, and by one of discovery its sender is found; a frame that is stopped is ignored
-    /// for the first reason that holds.
+    /// brings to a link is heard there, one of broadcast is heard at the broadcast link, and by one of discovery its
+    /// sender is found; a frame that is stopped is ignored for the first reason that holds.
     ///
     /// # Errors
     ///
@@ -68,7 +69,7 @@ impl Core {
             Ok(due) => match due.kind {
                 FrameKind::Links => self.hear(alloc, by, number, &due, out),
                 FrameKind::Finds => self.find(alloc, by, number, &due, out),
-                FrameKind::Casts => unreachable!(),
+                FrameKind::Casts => self.hear_cast(alloc, by, number, &due, out),
             },
             Err(why) => self.ignore(alloc, by, bearer, number, why),
         }
@@ -81,7 +82,9 @@ impl Core {
             IsDue self.now frame.now d.bearer d.peer d.first d.second (view d.packet)) }
         ensures brings { IfOk result (λ d. d.kind ≡ Finds →
             BringsDiscovery self.now frame.now d.bearer d.peer d.first d.second (view d.packet)) }
-        ensures kind { IfOk result (λ d. (kind_in frame.now ≡ d.kind) × (d.kind ≢ Casts)) }
+        ensures casts { IfOk result (λ d. d.kind ≡ Casts →
+            BringsCast self.now frame.now d.bearer d.peer d.first d.second (view d.packet)) }
+        ensures kind { IfOk result (λ d. kind_in frame.now ≡ d.kind) }
         ensures bearer { IfOk result (λ d. d.bearer ≡ bearer) }
         ensures clear { OnOk result (stop_of self.now bearer frame.now ≡ None) }
         ensures stopped { IfErr result (λ why. stop_of self.now bearer frame.now ≡ Some why) }

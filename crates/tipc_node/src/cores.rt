@@ -7,6 +7,7 @@ ghost use Rattle.tipc_outside.specs.declared.outgoing.Outgoing.{Outgoing};
 ghost use Rattle.tipc_journal.specs.Counting.{is_sent_by_name};
 ghost use Rattle.tipc_sockets.specs.SocketTables.{AreSockets, no_sockets};
 ghost use Rattle.tipc_node.specs.Calls.{CanPerform, IsPickedFrom, Performs, TakesNoMemory, tick_plan, upkeep_plan};
+ghost use Rattle.tipc_send_window.specs.Sending.{IsSending};
 ghost use Rattle.tipc_broadcast.specs.Casting.{booted};
 ghost use Rattle.tipc_node.specs.Casting.{casting_in};
 ghost use Rattle.tipc_node.specs.Discovery.{nobody_heard};
@@ -191,15 +192,17 @@ impl Core {
         self.journal
     }
 
-    /// Its sockets hold together and have its address, its boot has a number from which contact numbers are made, and there
-    /// is a place for each peer. It does nothing.
+    /// Its sockets hold together and have its address, its boot has a number from which contact numbers are made, there is
+    /// a place for each peer, and the send window of its broadcast link is one. It does nothing.
     pub fn sound(&self)
         ensures sockets { AreSockets self.now.sockets }
         ensures own { self.now.sockets.own ≡ self.now.own }
         ensures boot { self.now.sockets.ports.boot ≡ self.now.boot }
         ensures epochs { (1 ≤ self.now.boot) × (self.now.boot < 2 ^ 32) }
         ensures wide { length self.now.neighbours ≡ 33 }
+        ensures sending { IsSending self.now.casting.sending }
     {
+        let _ = self.broadcast.numbered();
         let _ = self.draft.sockets().live();
         let _ = self.draft.neighbours();
         let _ = self.boot();
@@ -297,7 +300,15 @@ impl Core {
             EventNote::Tick => self.tick(alloc, by, out),
             EventNote::Cut { bearer } => self.take_part(alloc, by, Upkeep::Cut(bearer), out),
             EventNote::Mend { bearer } => self.take_part(alloc, by, Upkeep::Mend(bearer), out),
-            EventNote::Multicast { .. } | EventNote::Arrive { .. } => unreachable!(),
+            EventNote::Multicast {
+                port,
+                kind,
+                lower,
+                upper,
+                importance,
+                body,
+            } => self.multicast(alloc, by, port, kind, lower, upper, importance, body, out),
+            EventNote::Arrive { .. } => unreachable!(),
         }
     }
 

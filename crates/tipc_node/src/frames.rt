@@ -1,8 +1,8 @@
 //! What an arriving frame is to a node, and what it delivers.
 
-ghost use Rattle.std.specs.Prelude.{◌≡◌, ◌≤◌, ◌-◌, ◌↔◌, true, false, All, None, Some, is_some, length, slice_index_or, sum_by, IfErr, IfOk, IfSome, IfNone};
-ghost use Rattle.tipc_types.specs.declared.message_forms.Flow.TheVariants.{Zero};
+ghost use Rattle.std.specs.Prelude.{◌≡◌, ◌<◌, ◌^◌, ◌≤◌, ◌-◌, ◌↔◌, true, false, All, None, Some, is_some, length, slice_index_or, sum_by, IfErr, IfOk, IfSome, IfNone};
 ghost use Rattle.tipc_types.specs.Address.{node_word};
+ghost use Rattle.tipc_header.specs.declared.frames.FrameKind.TheVariants.{Casts};
 ghost use Rattle.tipc_header.specs.Faults.{fault_of};
 ghost use Rattle.tipc_header.specs.Frames.{frame_of, kind_in};
 ghost use Rattle.tipc_header.specs.Grammar.{Fits};
@@ -11,6 +11,7 @@ ghost use Rattle.tipc_journal.specs.Room.{entry_bytes, free_entries, free_messag
 ghost use Rattle.tipc_reassembly.specs.declared.opening.Opened.TheVariants.{Whole};
 ghost use Rattle.tipc_pair.specs.Messages.{opened_in, HasNoFault};
 ghost use Rattle.tipc_node.specs.Hearings.{IsLooked, IsPrepared};
+ghost use Rattle.tipc_node.specs.Messages.{in_flow, is_of_items};
 ghost use Rattle.tipc_node.specs.Nodes.{arrival_answer, deliveries_of, delivered_by, delivery_of, end_with, is_other, message_count, stop_among, stop_by_kind, taken_count};
 
 use crate::casting::stated_in;
@@ -58,6 +59,7 @@ pub fn look<'a>(
     ensures brings { IfOk result (λ d. IsLooked own.word frame.now d) }
     ensures bearer { IfOk result (λ d. d.bearer ≡ bearer) }
     ensures kind { IfOk result (λ d. kind_in frame.now ≡ d.kind) }
+    ensures boot { IfOk result (λ d. d.kind ≡ Casts → d.first < 2 ^ 32) }
     ensures passes { IfOk result (λ d. stop_by_kind d.kind d.packet.header d.bearer
         (slice_index_or neighbours.now d.peer None) ≡ None) }
     ensures clear { IfOk result (λ d. stop_among own.word mended neighbours.now bearer frame.now ≡ None) }
@@ -106,7 +108,7 @@ fn stop_by_kind(
         FrameKind::Finds => Some(Why::Network),
         FrameKind::Links if has_end(neighbours, peer, bearer) => None,
         FrameKind::Links => Some(Why::Unknown),
-        FrameKind::Casts if is_known(neighbours, peer) => Some(Why::Epoch),
+        FrameKind::Casts if is_known(neighbours, peer) => None,
         FrameKind::Casts => Some(Why::Unknown),
     }
 }
@@ -152,22 +154,23 @@ pub struct Delivery {
     pub message: Option<Message>,
 }
 
-/// The entry of a whole packet that was given in a contact: its message is delivered, or the packet is dropped
+/// The entry of a whole packet that was given in a flow of a contact: its message is delivered, or the packet is dropped
 /// where it carries none.
 fn delivered_entry(
+    flow: Flow,
     peer: u8,
     contact: (u64, u64),
     message: Option<Message>,
     arrivals: Arrivals,
 ) -> Entry
     requires peer { (1 ≤ peer) × (peer ≤ 32) }
-    ensures { result ≡ delivered_by Zero peer contact message arrivals }
+    ensures { result ≡ delivered_by flow peer contact message arrivals }
 {
     match message {
         Some(message) => Entry::Delivered {
             peer: Addr::node(peer),
             contact,
-            flow: Flow::Zero,
+            flow,
             message,
             by: arrivals,
         },
@@ -175,9 +178,29 @@ fn delivered_entry(
     }
 }
 
-/// What a whole packet comes to that was given in a contact.
+/// Whether there is a message, and it is one of name items.
+fn is_of_items(message: &Option<Message>) -> bool
+    ensures { result ≡ is_of_items message.now }
+{
+    matches!(message, Some(Message::Items { .. }))
+}
+
+/// The message that is delivered in a flow, of one that a packet carries: name items are told to each peer by itself, so none
+/// is broadcast. (This project's profile.)
+fn in_flow(flow: Flow, message: Option<Message>) -> Option<Message>
+    ensures { result ≡ in_flow flow message }
+{
+    match flow {
+        Flow::Zero => message,
+        Flow::One => message,
+        Flow::Broadcast => { if is_of_items(&message) { None } else { message } }
+    }
+}
+
+/// What a whole packet comes to that was given in a flow of a contact.
 fn whole_delivery(
     alloc: Global,
+    flow: Flow,
     peer: u8,
     contact: (u64, u64),
     packet: &[u8],
@@ -185,33 +208,34 @@ fn whole_delivery(
 ) -> Result<Delivery, NoMemory>
     requires peer { (1 ≤ peer) × (peer ≤ 32) }
     requires sound { fault_of packet.now ≡ None }
-    ensures { IfOk result (λ d. d ≡ delivery_of Zero peer contact (Whole packet.now by.now)) }
+    ensures { IfOk result (λ d. d ≡ delivery_of flow peer contact (Whole packet.now by.now)) }
 {
     let Ok(packet) = decode(packet) else {
         unreachable!()
     };
-    let message = message_from(alloc, &packet)?;
+    let message = in_flow(flow, message_from(alloc, &packet)?);
     let recorded = message.clone()?;
     Ok(Delivery {
-        entry: delivered_entry(peer, contact, recorded, by.clone()?),
+        entry: delivered_entry(flow, peer, contact, recorded, by.clone()?),
         message,
     })
 }
 
-/// What a member of what was given in a contact comes to.
+/// What a member of what was given in a flow of a contact comes to.
 fn delivery_from(
     alloc: Global,
+    flow: Flow,
     peer: u8,
     contact: (u64, u64),
     opened: &Opened,
 ) -> Result<Delivery, NoMemory>
     requires peer { (1 ≤ peer) × (peer ≤ 32) }
     requires sound { HasNoFault opened.now }
-    ensures { IfOk result (λ d. d ≡ delivery_of Zero peer contact opened.now) }
+    ensures { IfOk result (λ d. d ≡ delivery_of flow peer contact opened.now) }
 {
     match opened {
         Opened::Whole { packet, by } => {
-            whole_delivery(alloc, peer, contact, packet.as_slice(), by)
+            whole_delivery(alloc, flow, peer, contact, packet.as_slice(), by)
         }
         Opened::Passed { place } => Ok(Delivery {
             entry: Entry::Dropped { place: *place },
@@ -220,37 +244,39 @@ fn delivery_from(
     }
 }
 
-/// What all that was given in a contact comes to.
+/// What all that was given in a flow of a contact comes to.
 fn deliveries(
     alloc: Global,
+    flow: Flow,
     peer: u8,
     contact: (u64, u64),
     opened: &[Opened],
 ) -> Result<Vec<Delivery>, NoMemory>
     requires peer { (1 ≤ peer) × (peer ≤ 32) }
     requires sound { All HasNoFault opened.now }
-    ensures { IfOk result (λ ds. ds.items ≡ deliveries_of Zero peer contact opened.now) }
+    ensures { IfOk result (λ ds. ds.items ≡ deliveries_of flow peer contact opened.now) }
 {
     let mut deliveries = Vec::new(alloc);
     for given in opened {
-        deliveries.push(delivery_from(alloc, peer, contact, given)?)?;
+        deliveries.push(delivery_from(alloc, flow, peer, contact, given)?)?;
     }
     Ok(deliveries)
 }
 
-/// What all that an arrival gives in a contact comes to.
+/// What all that an arrival gives in a flow of a contact comes to.
 pub fn prepare_deliveries(
     alloc: Global,
+    flow: Flow,
     peer: u8,
     contact: (u64, u64),
     outcome: &PairOutcome,
 ) -> Result<Vec<Delivery>, NoMemory>
     requires peer { (1 ≤ peer) × (peer ≤ 32) }
     requires sound { All HasNoFault (opened_in outcome.now) }
-    ensures { IfOk result (λ ds. ds.items ≡ deliveries_of Zero peer contact (opened_in outcome.now)) }
+    ensures { IfOk result (λ ds. ds.items ≡ deliveries_of flow peer contact (opened_in outcome.now)) }
 {
     match outcome {
-        PairOutcome::Took(opened) => deliveries(alloc, peer, contact, opened.as_slice()),
+        PairOutcome::Took(opened) => deliveries(alloc, flow, peer, contact, opened.as_slice()),
         PairOutcome::Deferred => Ok(Vec::new(alloc)),
         PairOutcome::Ignored(_) => Ok(Vec::new(alloc)),
     }
@@ -315,7 +341,7 @@ pub fn arrival_answer(outcome: &PairOutcome, deliveries: &[Delivery]) -> Arrival
 }
 
 /// Whether there are so few deliveries that their entries have room in a step: 65,532 at most.
-fn are_few(deliveries: &[Delivery]) -> bool
+pub fn are_few(deliveries: &[Delivery]) -> bool
     ensures { (result ≡ true) ↔ (length deliveries.now ≤ free_entries - 4) }
 {
     deliveries.len() <= MOST_TOLD
@@ -363,7 +389,7 @@ pub fn prepare(
     };
     let arriving = neighbour.pair.prepare(alloc, due.bearer, &incoming)?;
     let contact = neighbour.contact_numbers();
-    let deliveries = prepare_deliveries(alloc, due.peer, contact, arriving.outcome())?;
+    let deliveries = prepare_deliveries(alloc, Flow::Zero, due.peer, contact, arriving.outcome())?;
     if !are_few(deliveries.as_slice()) {
         return Err(NoMemory);
     }

@@ -1,12 +1,13 @@
 //! The messages that a user sends, their limits, and their packets.
 
-ghost use Rattle.std.specs.Prelude.{◌≡◌, ◌≤◌, All, length, IfOk};
+ghost use Rattle.std.specs.Prelude.{◌≡◌, ◌≤◌, true, All, Some, length, IfOk};
 ghost use Rattle.tipc_journal.specs.Refusals.{longest_body};
 ghost use Rattle.tipc_journal.specs.Room.{counted_bytes};
 ghost use Rattle.tipc_pair.specs.Messages.{pieces_for};
 ghost use Rattle.tipc_pair.specs.Runs.{IsListed};
 ghost use Rattle.tipc_message.specs.Wire.{IsCarried, IsPayload};
-ghost use Rattle.tipc_node.specs.Messages.{IsSendable, bytes_of, direct, limit_of, named};
+ghost use Rattle.tipc_node.specs.Multicasts.{is_multicast};
+ghost use Rattle.tipc_node.specs.Messages.{ArePieces, IsSendable, bytes_of, direct, limit_of, multicast, named};
 
 use std::alloc::Global;
 use tipc_fragments::{LEAST_CUT, cut};
@@ -66,6 +67,40 @@ pub fn named(
     }
 }
 
+/// A user's message to each port that offers in a range.
+pub fn multicast(
+    own: Addr,
+    port: u32,
+    kind: u32,
+    lower: u32,
+    upper: u32,
+    importance: Importance,
+    body: Body,
+) -> Message
+    requires { length body ≤ longest_body }
+    ensures value { result ≡ multicast own.word port
+        (record { kind = kind; lower = lower; upper = upper }) importance body }
+    ensures many { is_multicast (Some result) ≡ true }
+    ensures payload { IsPayload result }
+    ensures small { counted_bytes result ≤ longest_body }
+{
+    Message::Payload {
+        importance,
+        form: Form::Multicast,
+        from: PortId { node: own, port },
+        to: PortId {
+            node: Addr { word: 0 },
+            port: 0,
+        },
+        name_kind: kind,
+        lower,
+        upper,
+        code: 0,
+        droppable: true,
+        body,
+    }
+}
+
 /// What the journal keeps of a call that sends a message to a port.
 pub fn port_note(port: u32, to: PortId, importance: Importance, body: Body) -> EventNote
     ensures { result ≡ EventNote.SendPort port to importance body }
@@ -97,6 +132,27 @@ pub fn name_note(
     }
 }
 
+/// What the journal keeps of a call that sends a message to each port that offers in a range.
+pub fn multicast_note(
+    port: u32,
+    kind: u32,
+    lower: u32,
+    upper: u32,
+    importance: Importance,
+    body: Body,
+) -> EventNote
+    ensures { result ≡ EventNote.Multicast port kind lower upper importance body }
+{
+    EventNote::Multicast {
+        port,
+        kind,
+        lower,
+        upper,
+        importance,
+        body,
+    }
+}
+
 /// How many packets may wait before a message of this importance is congested. (This project's profile.)
 pub fn limit(importance: Importance) -> u32
     ensures { result ≡ limit_of importance }
@@ -115,6 +171,7 @@ pub fn pieces(alloc: Global, own: Addr, message: &Message) -> Result<Pieces, NoM
     ensures sendable { IfOk result (λ pieces. IsSendable own.word message.now) }
     ensures value { IfOk result (λ pieces. pieces ≡ pieces_for (bytes_of own.word message.now)) }
     ensures listed { IfOk result (All IsListed) }
+    ensures cast { IfOk result ArePieces }
 {
     let packet = packet_bytes(alloc, own, message)?;
     if packet.len() >= LEAST_CUT {

@@ -15,7 +15,7 @@ ghost use Rattle.tipc_broadcast.specs.Contacts.{has_joined};
 ghost use Rattle.tipc_broadcast.specs.Deeds.{after_deeds, deeds_frames};
 ghost use Rattle.tipc_pair.specs.Contacts.{is_of_contact};
 ghost use Rattle.tipc_node.specs.Casting.{bearer_deeds, casting_in, contact_deeds, IsContactChange};
-ghost use Rattle.tipc_node.specs.Neighbours.{course_of, done, making, stranger, with_pair, IsOnBearer, PutsThere};
+ghost use Rattle.tipc_node.specs.Neighbours.{with_casts, casts_after, course_of, done, making, stranger, with_pair, IsOnBearer, PutsThere};
 ghost use Rattle.tipc_node.specs.Nodes.{accepted_entry, is_met, load_all, load_on, load_with, mended_by, shown_contact, unacked_in, upkeep_note, waiting_in, with_mended_on, is_mended_on};
 ghost use Rattle.tipc_node.specs.Partings.{AreAllJoined, TookPart, TookParts};
 
@@ -26,6 +26,7 @@ use tipc_broadcast::Broadcast;
 use tipc_journal::Entry;
 use tipc_outside::Outbox;
 use tipc_pair::{Pair, Transition, TransitionList};
+use tipc_reassembly::Reassembly;
 use tipc_send_window::OfferFault;
 use tipc_types::{Addr, BroadcastState, EventNote, Flow, Message, NoMemory, Pieces};
 
@@ -37,6 +38,8 @@ pub const NUMBERS: usize = 33;
 pub struct Neighbour {
     /// The link ends to it, and the contact.
     pub pair: Pair,
+    /// What is begun of its broadcast, in this contact with it.
+    pub casts: Reassembly,
 }
 
 /// What happens to all neighbours of a node alike.
@@ -100,6 +103,7 @@ impl Neighbour {
     {
         Neighbour {
             pair: Pair::new(alloc, own, Addr::node(peer), boot),
+            casts: Reassembly::new(alloc),
         }
     }
 
@@ -131,6 +135,27 @@ impl Neighbour {
         ensures contact { IfOk result (λ changes.
             IsContactChange (in_contact self.old.pair) (filter is_of_contact changes)) }
     {
+        let changes = self.move_pair(alloc, upkeep, shown, out)?;
+        self.begin_anew(alloc, changes.as_slice());
+        Ok(changes)
+    }
+
+    /// Its pair takes part in what happens to all neighbours alike; a STATE shows this of the broadcast link.
+    fn move_pair(
+        &mut self,
+        alloc: Global,
+        upkeep: Upkeep,
+        shown: BroadcastState,
+        out: &mut Outbox,
+    ) -> Result<TransitionList, NoMemory>
+        requires { IsOnBearer upkeep }
+        ensures after { OnOk result (self.new ≡ with_pair self.old (course_of upkeep shown self.old).pair) }
+        ensures changes { IfOk result (λ changes. changes ≡ (course_of upkeep shown self.old).changes) }
+        ensures frames { OnOk result (Gains out.old out.new (made_in (course_of upkeep shown self.old))) }
+        // The contact begins or ends once at most.
+        ensures contact { IfOk result (λ changes.
+            IsContactChange (in_contact self.old.pair) (filter is_of_contact changes)) }
+    {
         self.pair.sound();
         match upkeep {
             Upkeep::Mend(bearer) => {
@@ -139,6 +164,15 @@ impl Neighbour {
             }
             Upkeep::Cut(bearer) => self.pair.cut(alloc, bearer, out),
             Upkeep::Tick => self.pair.tick(alloc, shown, out),
+        }
+    }
+
+    /// Nothing is begun of its broadcast any more where a contact with it began or ended by these changes.
+    pub fn begin_anew(&mut self, alloc: Global, changes: &[Transition])
+        ensures { self.new ≡ with_casts self.old (casts_after self.old.casts changes.now) }
+    {
+        if changes_contact(changes) {
+            self.casts = Reassembly::new(alloc);
         }
     }
 

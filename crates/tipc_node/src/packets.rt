@@ -59,6 +59,7 @@ impl Neighbour {
         let mut event = Outbox::new(alloc);
         let arrival = self.pair.commit(alloc, arriving, packet, shown, &mut event);
         out.append(event);
+        self.begin_anew(alloc, arrival.changes.as_slice());
         arrival.changes
     }
 
@@ -110,6 +111,7 @@ impl Neighbour {
     {
         Ok(Neighbour {
             pair: self.pair.copy()?,
+            casts: self.casts.copy()?,
         })
     }
 }

@@ -84,7 +84,7 @@ impl Draft {
 
 impl Core {
     /// Why the sender of a message is refused: its port isn't there, or the body is too long.
-    fn sender_refusal(&self, port: u32, body: &Body) -> Option<Answer>
+    pub(crate) fn sender_refusal(&self, port: u32, body: &Body) -> Option<Answer>
         ensures { result ≡ sender_refusal self.now port body.now }
     {
         if !self.draft.sockets().has(port) {

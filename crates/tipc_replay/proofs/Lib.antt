@@ -11,6 +11,8 @@ pub mod Staying
 pub mod Happening
 pub mod SoundEvents
 pub mod SoundWorlds
+pub mod states
+pub mod casts
 pub mod Answering
 pub mod Receiving
 pub mod Telling

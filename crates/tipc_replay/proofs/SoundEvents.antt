@@ -25,6 +25,7 @@ use Rattle.tipc_replay.specs.Effects.{HasEffect}
 use Rattle.tipc_replay.specs.Members.{IsRestarted}
 use Rattle.tipc_replay.specs.Sound.{IsNumber, IsPairOf, IsSound}
 use Rattle.tipc_replay.specs.States.{MemberState, contact_at, has_member, member_at, pair_at}
+use Rattle.tipc_replay.specs.Steady.{IsSteady}
 use Rattle.tipc_replay.specs.Steps.{Happens, Stage, Turns}
 use Rattle.tipc_replay.proofs.pairs.Bringing.{are_brought}
 use Rattle.tipc_replay.proofs.frames.Coming.{ComesOut, nothing_brought, nothing_out, sender_there}
@@ -196,15 +197,16 @@ streams_after old new by (Arrive a bearer place) bytes before after frames answe
     taken_streams old new a before after bytes (met_step by bearer place bytes before after frames answered h) frames lost sound t (met_turn by bearer place bytes before after frames answered h) (ready_out old a bearer place bytes before sound ready (length before.arrivals))
 
 -- after every event a sound world is sound
-pub happens_sound : (old new : Stage) (by : By) (event : WorldEvent) (bytes : List ℕ) (answered : Answer) (lost : Bool) → IsSound old.members old.air → (h : Happens old new by event bytes answered lost)
+pub happens_sound : (old new : Stage) (by : By) (event : WorldEvent) (bytes : List ℕ) (answered : Answer) (lost : Bool) → IsSteady old.members old.air → (h : Happens old new by event bytes answered lost)
     → IsReady old.members old.air event bytes h.before → IsSound new.members new.air
-happens_sound old new by event bytes answered lost sound h ready =
+happens_sound old new by event bytes answered lost steady h ready =
+    let sound = steady.sound in
     let a = node_of event in
     let t = h.turns in
     let was = was_there old new a h.before h.after h.frames lost t in
     let k = keeps old by event bytes h.before h.after h.frames answered sound t.was was ready h.does in
     let none = no_pair old new a h.before h.after h.frames lost t k in
-    let out = all_out old by event bytes h.before h.after h.frames answered sound t.was ready h.does in
+    let out = all_out old by event bytes h.before h.after h.frames answered steady t.was ready h.does in
     let streams = streams_after old new by event bytes h.before h.after h.frames answered lost sound t ready h.does in
     record {
       numbered = numbers_stay old new a h.before h.after h.frames lost sound t k;
@@ -220,7 +222,7 @@ happens_sound old new by event bytes answered lost sound h ready =
           ];
       between = still_between old new a h.before h.after h.frames lost sound t k;
       pairs = happens_pairs old new by event bytes answered lost sound h ready;
-      one_flow = streams.one_flow;
+      no_flow_one = streams.no_flow_one;
       accepted = streams.accepted;
       delivered = streams.delivered;
       nothing = streams.nothing;

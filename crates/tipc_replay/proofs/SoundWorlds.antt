@@ -27,6 +27,7 @@ use Rattle.tipc_replay.specs.Skies.{AirState, air_on, empty_air}
 use Rattle.tipc_replay.specs.Sound.{IsNumber, IsSound}
 use Rattle.tipc_replay.specs.States.{has_member, MemberState, boot_at, count_at, count_in, count_of, history, history_at, member_at, pair_at, same_session, stream_of}
 use Rattle.tipc_replay.specs.Events.{JoinsAt}
+use Rattle.tipc_replay.specs.Steady.{IsSteady}
 use Rattle.tipc_replay.specs.Steps.{Becomes, IsArrival, Stage}
 use Rattle.tipc_replay.specs.Views.{given_in, node_from, put_in, sight_at, sight_from}
 use Rattle.tipc_replay.proofs.pairs.Counts.{count_alone}
@@ -37,29 +38,29 @@ use Rattle.tipc_replay.proofs.streams.StreamsKept.{streams_of}
 
 -- ---- after an event
 
-arrival_sound : (old new : Stage) (by : By) (node bearer place : ℕ) (answered : Answer) (lost : Bool) → IsSound old.members old.air → IsArrival old new by node bearer place answered lost → IsSound new.members new.air
-arrival_sound old new by node bearer place answered lost sound h = case (unarrived old.members old.air node bearer place) refl
+arrival_sound : (old new : Stage) (by : By) (node bearer place : ℕ) (answered : Answer) (lost : Bool) → IsSteady old.members old.air → IsArrival old new by node bearer place answered lost → IsSound new.members new.air
+arrival_sound old new by node bearer place answered lost steady h = case (unarrived old.members old.air node bearer place) refl
   where
     case : (o : Option Answer) → unarrived old.members old.air node bearer place ≡ o → IsSound new.members new.air
-    case (Some why) stops = subst (λ (s : Stage). IsSound s.members s.air) (sym (h.none why stops).1) sound
+    case (Some why) stops = subst (λ (s : Stage). IsSound s.members s.air) (sym (h.none why stops).1) steady.sound
     case None free =
         let a = h.arrives free in
-        happens_sound old new by (Arrive node bearer place) a.0.frame answered lost sound a.2 (a.0, a.1, free, refl)
+        happens_sound old new by (Arrive node bearer place) a.0.frame answered lost steady a.2 (a.0, a.1, free, refl)
 
-pub becomes_sound : (old new : Stage) (by : By) (event : WorldEvent) (answered : Answer) (lost : Bool) → IsSound old.members old.air → HasNextBoot old.members event → Becomes old by event new answered lost
+pub becomes_sound : (old new : Stage) (by : By) (event : WorldEvent) (answered : Answer) (lost : Bool) → IsSteady old.members old.air → HasNextBoot old.members event → Becomes old by event new answered lost
     → IsSound new.members new.air
-becomes_sound old new by (Restart node) answered lost sound boots h =
-    happens_sound old new by (Restart node) [] answered lost sound h (let next = boots h.before h.turns.was in omega arith)
-becomes_sound old new by (Call node call) answered lost sound boots h = happens_sound old new by (Call node call) [] answered lost sound h tt
-becomes_sound old new by (Arrive node bearer place) answered lost sound boots h = arrival_sound old new by node bearer place answered lost sound h
+becomes_sound old new by (Restart node) answered lost steady boots h =
+    happens_sound old new by (Restart node) [] answered lost steady h (let next = boots h.before h.turns.was in omega arith)
+becomes_sound old new by (Call node call) answered lost steady boots h = happens_sound old new by (Call node call) [] answered lost steady h tt
+becomes_sound old new by (Arrive node bearer place) answered lost steady boots h = arrival_sound old new by node bearer place answered lost steady h
 
 -- ---- a node comes in
 
-absent_boot : (members : List (Option MemberState)) (n : ℕ) → slice_index_or members n None ≡ None → boot_at members n ≡ 1
+pub absent_boot : (members : List (Option MemberState)) (n : ℕ) → slice_index_or members n None ≡ None → boot_at members n ≡ 1
 unfolding boot_at member_at
 absent_boot members n none = ap (λ o. unwrap_or (option_map (λ (m : MemberState). m.node.boot) o) 1) none
 
-absent_history : (members : List (Option MemberState)) (n : ℕ) → slice_index_or members n None ≡ None → history_at members n ≡ []
+pub absent_history : (members : List (Option MemberState)) (n : ℕ) → slice_index_or members n None ≡ None → history_at members n ≡ []
 unfolding history_at member_at
 absent_history members n none = ap (λ o. unwrap_or (option_map history o) []) none
 
@@ -80,7 +81,7 @@ new_count m n first b bearer epoch c =
     count_alone m b bearer epoch (ap (λ o. end_on bearer (option_map (λ (x : Neighbour). x.pair) o)) (c.node.alone b)) ∙ no_count m.counts b bearer epoch c.counts
 
 -- a node is to each other as before, but for its boot
-record IsSame (members members' : List (Option MemberState)) (a : ℕ) : Type 0 where
+pub record IsSame (members members' : List (Option MemberState)) (a : ℕ) : Type 0 where
   pub pair : (b : ℕ) → pair_at members' a b ≡ pair_at members a b
   pub entries : history_at members' a ≡ history_at members a
   pub numbered : (b bearer epoch : ℕ) → count_at members' a b bearer epoch ≡ count_at members a b bearer epoch
@@ -103,7 +104,7 @@ other_same old new a same =
       numbered = λ b bearer epoch. count_at-same old new a b bearer epoch is;
     }
 
-all_same : (old new : List (Option MemberState)) (n first : ℕ) → slice_index_or old n None ≡ None → JoinsAt old new n first → (a : ℕ) → IsSame old new a
+pub all_same : (old new : List (Option MemberState)) (n first : ℕ) → slice_index_or old n None ≡ None → JoinsAt old new n first → (a : ℕ) → IsSame old new a
 all_same old new n first none j a = elim (cases_eq a n) [
   | inl same ↦ subst (λ k. IsSame old new k) (sym same) (newcomer_same old new n first j.newcomer none j.here j.fresh)
   | inr other ↦ other_same old new a (j.others a other)
@@ -119,20 +120,20 @@ sight_in old new air a b boot boots s =
     λ i. sight_from a b (boots i) (pair i) (put_in (node_word a) (entries i) b) (given_in (entries i) b) (λ bearer epoch. s.numbered b bearer epoch i) (sent_between air a b)
 
 -- a node that was there is to each other what it was
-other_sight : (old new : List (Option MemberState)) (air : AirState) (a b : ℕ) → slice_index_or new a None ≡ slice_index_or old a None → sight_at new air a b ≡ sight_at old air a b
+pub other_sight : (old new : List (Option MemberState)) (air : AirState) (a b : ℕ) → slice_index_or new a None ≡ slice_index_or old a None → sight_at new air a b ≡ sight_at old air a b
 unfolding sight_at
 other_sight old new air a b same = sight_in old new air a b (boot_at old a) (boot_at-same old new a (member_alike old new a same)) (other_same old new a same)
 
 -- ---- a boot that isn't the first one
 
 -- what a node is to another one, in another boot, where it has nothing of it
-abbrev in_boot : Sight → ℕ → Sight
+abbrev pub in_boot : Sight → ℕ → Sight
 in_boot v boot = record v { node = record { own = v.node.own; peer = v.node.peer; boot = boot; contact = first_number boot; seen = 0 } }
 
-record IsBare (v : Sight) : Type 0 where
-  node : v.node ≡ record { own = v.node.own; peer = v.node.peer; boot = v.node.boot; contact = first_number v.node.boot; seen = 0 }
-  ends : (b : ℕ) → v.ends b ≡ None
-  partial : v.partial ≡ fresh
+pub record IsBare (v : Sight) : Type 0 where
+  pub node : v.node ≡ record { own = v.node.own; peer = v.node.peer; boot = v.node.boot; contact = first_number v.node.boot; seen = 0 }
+  pub ends : (b : ℕ) → v.ends b ≡ None
+  pub partial : v.partial ≡ fresh
 
 -- such a node talks in each later boot as it does in this one
 later_seen : (v w : Sight) (more boot : ℕ) → IsBare v → AreSeen v w → boot ≡ v.node.boot + more → boot < 2 ^ 32 → AreSeen (in_boot v boot) w
@@ -157,7 +158,7 @@ later_seen v w (suc more) boot bare h is few =
     }) fits)
 
 -- a node that isn't there has nothing of any other
-absent_bare : (members : List (Option MemberState)) (air : AirState) (n b : ℕ) → slice_index_or members n None ≡ None → IsBare (sight_at members air n b)
+pub absent_bare : (members : List (Option MemberState)) (air : AirState) (n b : ℕ) → slice_index_or members n None ≡ None → IsBare (sight_at members air n b)
 unfolding sight_at
 absent_bare members air n b none =
     let pair = absent_pair members n b none in record {
@@ -166,12 +167,12 @@ absent_bare members air n b none =
       partial = ap begun_of pair;
     }
 
-absent_first : (members : List (Option MemberState)) (air : AirState) (n b : ℕ) → slice_index_or members n None ≡ None → (sight_at members air n b).node.boot ≡ 1
+pub absent_first : (members : List (Option MemberState)) (air : AirState) (n b : ℕ) → slice_index_or members n None ≡ None → (sight_at members air n b).node.boot ≡ 1
 unfolding sight_at
 absent_first members air n b none = absent_boot members n none
 
 -- a newcomer is to each other node as the one that wasn't there, in its boot
-newcomer_sight : (old new : List (Option MemberState)) (air : AirState) (n b first : ℕ) → slice_index_or old n None ≡ None → JoinsAt old new n first → sight_at new air n b ≡ in_boot (sight_at old air n b) first
+pub newcomer_sight : (old new : List (Option MemberState)) (air : AirState) (n b first : ℕ) → slice_index_or old n None ≡ None → JoinsAt old new n first → sight_at new air n b ≡ in_boot (sight_at old air n b) first
 unfolding sight_at
 newcomer_sight old new air n b first none j =
     let boots = boot_at-is new n j.newcomer (member_at-is new n j.newcomer j.here) ∙ j.fresh.node.boot_is in
@@ -244,7 +245,7 @@ joined_sound old new air n first number from few none sound j =
       known = λ a b absent. (same a).pair b ∙ sound.known a b (λ is. joined_absent old new n first b j (absent is));
       between = λ a b x is. sound.between a b x (sym ((same a).pair b) ∙ is);
       pairs = λ a b a_is b_is apart. joined_pairs old new air n first a b none from few j apart (sound.pairs a b a_is b_is apart);
-      one_flow = streams.one_flow;
+      no_flow_one = streams.no_flow_one;
       accepted = streams.accepted;
       delivered = streams.delivered;
       nothing = streams.nothing;
@@ -301,7 +302,7 @@ start_sound = record {
   known = λ a b _. absent_pair [] a b (nothing_there a);
   between = λ a b x is. absurd (let none = absent_pair [] a b (nothing_there a) in let wrong : ⊥ = cc in wrong);
   pairs = λ a b a_is b_is apart. starts (sight_at [] empty_air a b) (sight_at [] empty_air b a) (new_sight a b a_is b_is) (new_sight b a b_is a_is);
-  one_flow = streams_start.one_flow;
+  no_flow_one = streams_start.no_flow_one;
   accepted = streams_start.accepted;
   delivered = streams_start.delivered;
   nothing = streams_start.nothing;

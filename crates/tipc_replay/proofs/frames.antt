@@ -1,5 +1,6 @@
 -- The frames in the air: their senders, their age, and what they tell.
 pub mod Ages
+pub mod Agings
 pub mod Released
 pub mod Emissions
 pub mod Senders
@@ -10,3 +11,5 @@ pub mod Messages
 pub mod Fitting
 pub mod Routes
 pub mod Lasting
+pub mod AgedKept
+pub mod Recent

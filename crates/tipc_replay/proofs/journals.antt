@@ -4,6 +4,8 @@ pub mod KeptWorlds
 pub mod Parted
 pub mod Stepping
 pub mod TunnelsTaken
+pub mod TurnCasts
+pub mod TurnCastsTraced
 pub mod TurnContacts
 pub mod TurnKept
 pub mod TurnMessages

@@ -14,7 +14,7 @@ use Rattle.tipc_replay.specs.declared.air.Sent.{Sent}
 use Rattle.tipc_replay.specs.declared.flying.Met.{Met}
 use Rattle.tipc_replay.specs.declared.flying.Met.TheVariants.{Lasting, Sender, Everyone}
 use Rattle.tipc_replay.specs.Skies.{AirState, with_both}
-use Rattle.tipc_replay.specs.States.{MemberState, contact_at, count_at, numbers_at}
+use Rattle.tipc_replay.specs.States.{MemberState, boot_at, cast_count_at, contact_at, count_at, numbers_at}
 
 -- the number of a node by its address word
 abbrev pub number_of_node : ℕ → ℕ
@@ -37,7 +37,8 @@ met_sender members a (Some peer) = Sender peer (contact_at members a peer)
 met_sender members a None = Lasting
 
 -- A frame that leaves node a in an event: before it the node was in these contacts, by peer, and these are the nodes after it. Beside the
--- frame stands the contact with the receiver before the event, or else the contact numbers after it, and the counts after it.
+-- frame stands the contact with the receiver before the event, or else the contact numbers after it, and the counts after it: those of the
+-- session, and those of the broadcast links in the boots of then.
 abbrev pub airborne : (ℕ → Option (ℕ × ℕ)) → List (Option MemberState) → ℕ → Outgoing → Sent
 airborne met members a o = record {
   from = record { word = node_word a };
@@ -46,6 +47,9 @@ airborne met members a o = record {
   contact = unwrap_or (met (receiver_of o.to)) (numbers_at members a (receiver_of o.to));
   numbered = count_at members a (receiver_of o.to) o.bearer (es_of o.frame);
   peer_numbered = count_at members (receiver_of o.to) a o.bearer (er_of o.frame);
+  casts = cast_count_at members a (boot_at members a);
+  peer_boot = boot_at members (receiver_of o.to);
+  peer_casts = cast_count_at members (receiver_of o.to) (boot_at members (receiver_of o.to));
 }
 
 abbrev pub is_on : ℕ → Outgoing → Bool

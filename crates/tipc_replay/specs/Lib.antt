@@ -18,10 +18,17 @@ pub mod Tables
 pub mod Told
 pub mod Views
 pub mod Sound
+pub mod Met
 pub mod Watched
 pub mod Entered
 pub mod Shared
 pub mod Received
 pub mod Answered
+pub mod Aged
+pub mod Heard
+pub mod Plain
+pub mod Steady
 pub mod Replayed
+pub mod Casters
+pub mod Castings
 pub mod Readers

@@ -1,9 +1,10 @@
 -- What each event makes of the node at which it happens.
-use Rattle.std.specs.Prelude.{◌≡◌, ◌<◌, ◌≤◌, ℕ, ◌+◌, false, List, [], ◌∷◌, ◌++◌, Option, None, Some, length, nat_le, option_and_then, option_map, if◌then◌else◌}
+use Rattle.std.specs.Prelude.{◌≡◌, ◌<◌, ◌≤◌, ℕ, ◌+◌, false, List, [], ◌∷◌, ◌++◌, Option, None, Some, length, nat_eq, nat_le, option_and_then, option_map, if◌then◌else◌}
 use Rattle.indexmap.specs.IndexMap.{insert_entry}
 use Rattle.tipc_types.specs.Address.{node_word}
 use Rattle.tipc_types.specs.LinkStates.{is_up}
 use Rattle.tipc_header.specs.Reading.{word_at}
+use Rattle.tipc_broadcast.specs.Casting.{booted}
 use Rattle.tipc_link.specs.Links.{LinkEnd}
 use Rattle.tipc_link.specs.Sessions.{SessionEnd}
 use Rattle.tipc_sockets.specs.SocketTables.{no_sockets}
@@ -73,12 +74,13 @@ arrived_member m n sender bearer frame = record {
   calls = m.calls + 1;
   arrivals = m.arrivals ++ record { bearer = bearer; frame = frame } ∷ [];
   counts = noted m.counts (over_with m sender bearer);
+  casts = m.casts;
 }
 
 -- ---- a node is restarted, or comes in
 
--- a node at the beginning of a boot: it heard and knows nobody, no tick has passed, and it has no sockets and no history, which is what its
--- journal tells
+-- a node at the beginning of a boot: it heard and knows nobody, no tick has passed, it cast nothing, and it has no sockets and no history, which is
+-- what its journal tells
 pub record IsFresh (n : NodeState) (own boot : ℕ) : Type 0 where
   pub own_is : n.own ≡ own
   pub boot_is : n.boot ≡ boot
@@ -86,19 +88,21 @@ pub record IsFresh (n : NodeState) (own boot : ℕ) : Type 0 where
   pub unheard : n.found ≡ nobody_heard own
   pub unticked : n.ticks ≡ 0
   pub alone : (peer : ℕ) → neighbour_of n peer ≡ None
+  pub casting : n.casting ≡ booted own boot
   pub sockets : n.sockets ≡ no_sockets own boot
   pub no_history : n.journal ≡ []
   pub told : IsTold n
   pub shares : SharesNames n
 
 -- A node was restarted: its journal is kept, and it begins its next boot. How many packets it ever numbered stays
--- known.
+-- known, and how many numbers its broadcast link used is noted for the boot that is over.
 pub record IsRestarted (m m' : MemberState) : Type 0 where
   pub node : IsFresh m'.node m.node.own (m.node.boot + 1)
   pub past : m'.past ≡ journals_of m
   pub calls : m'.calls ≡ 0
   pub arrivals : m'.arrivals ≡ m.arrivals
   pub counts : (peer bearer epoch : ℕ) → count_of m' peer bearer epoch ≡ count_of m peer bearer epoch
+  pub casts : m'.casts ≡ insert_entry nat_eq m.casts m.node.boot m.node.casting.sending.numbered
 
 -- a node that has just come in, in this boot
 pub record IsNewcomer (m : MemberState) (n boot : ℕ) : Type 0 where
@@ -107,3 +111,4 @@ pub record IsNewcomer (m : MemberState) (n boot : ℕ) : Type 0 where
   pub calls : m.calls ≡ 0
   pub arrivals : m.arrivals ≡ []
   pub counts : m.counts ≡ []
+  pub casts : m.casts ≡ []

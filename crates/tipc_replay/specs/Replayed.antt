@@ -6,12 +6,14 @@ use Rattle.tipc_types.specs.Address.{node_word}
 use Rattle.tipc_types.specs.Prefixes.{IsPrefixOf}
 use Rattle.tipc_types.specs.declared.message_forms.Flow.{Flow}
 use Rattle.tipc_types.specs.Limits.{most_frame_bytes}
+use Rattle.tipc_casters.specs.Views.{AreCastTrue}
 use Rattle.tipc_node.specs.Turns.{addr_of}
 use Rattle.tipc_two_nodes.specs.Truth.{AreTrue}
 use Rattle.tipc_replay.specs.declared.air.Sent.{Sent}
 use Rattle.tipc_replay.specs.Addressed.{IsAddressed, IsPacketOf}
 use Rattle.tipc_replay.specs.Lawful.{AreLawful, HasBegun}
 use Rattle.tipc_replay.specs.Answered.{AllAnswered}
+use Rattle.tipc_replay.specs.Casters.{caster_at}
 use Rattle.tipc_replay.specs.Entered.{numbers_entered}
 use Rattle.tipc_replay.specs.Received.{AreReceived}
 use Rattle.tipc_replay.specs.Skies.{AirState, air_on}
@@ -49,7 +51,7 @@ pub record IsReplayed (members : List (Option MemberState)) (air : AirState) : T
   -- For each node, in all its boots: each frame that arrived there is in the air, and was for that node.
   pub received : AreReceived members air
   -- For each node, in all its boots: each message that was delivered is spelled by frames that arrived there in that step or before, and
-  -- that the peer sent.
+  -- that the peer sent: in flow Broadcast to all, and in any other one to that node.
   pub spelled : (n : ℕ) (m : MemberState) → slice_index_or members n None ≡ Some m → AreSpelled air m
   -- Every frame in the air is true.
   pub frames : (bearer k : ℕ) (f : Sent) → slice_get (air_on bearer air) k ≡ Some f → IsTrue f
@@ -59,6 +61,9 @@ pub record IsReplayed (members : List (Option MemberState)) (air : AirState) : T
   -- hold slots of the list in order or are tunnel packets; and what it acknowledges holds slots that were taken.
   pub truth : (a b : ℕ) → IsNumber a → IsNumber b → a ≢ b
       → AreTrue (sight_at members air a b) (sight_at members air b a)
+  -- What each node accepted for broadcast are packets, in each boot one list: those for a node in a contact are of the messages that were accepted for
+  -- it there in flow Broadcast. And each broadcast frame of the node in the air brings one of them, for just the nodes for which it was accepted.
+  pub casts : (a : ℕ) → IsNumber a → AreCastTrue (caster_at members air a)
   -- For each node and each of its boots: each link that went down shows its cause, each contact that ended stands where no link is up, and
   -- messages are accepted and delivered in the contact in which the node is.
   pub lawful : (n : ℕ) (m : MemberState) → slice_index_or members n None ≡ Some m → AreLawful air m

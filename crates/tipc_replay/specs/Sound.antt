@@ -1,13 +1,13 @@
 -- What every world keeps: how its links, journals and frames hang together.
-use Rattle.std.specs.Prelude.{◌≡◌, ◌≢◌, ◌≤◌, ℕ, true, List, [], Option, Some, None, length, slice_get, slice_index_or}
+use Rattle.std.specs.Prelude.{◌≡◌, ◌≢◌, ◌≤◌, ◌<◌, ◌^◌, ℕ, true, List, [], Option, Some, None, length, slice_get, slice_index_or}
 use Rattle.tipc_types.specs.Address.{node_word}
 use Rattle.tipc_types.specs.declared.message_forms.Flow.{Flow}
-use Rattle.tipc_types.specs.declared.message_forms.Flow.TheVariants.{Zero}
+use Rattle.tipc_types.specs.declared.message_forms.Flow.TheVariants.{One, Zero}
 use Rattle.tipc_types.specs.declared.message_forms.Message.{Message}
 use Rattle.tipc_pair.specs.Facing.{PairEnds}
 use Rattle.tipc_two_nodes.specs.Sights.{AreSeen}
 use Rattle.tipc_replay.specs.declared.air.Sent.{Sent}
-use Rattle.tipc_node.specs.Messages.{IsSendable}
+use Rattle.tipc_node.specs.Messages.{IsSendable, in_flow}
 use Rattle.tipc_node.specs.Nodes.{is_frame_size}
 use Rattle.tipc_replay.specs.Addressed.{IsAddressed}
 use Rattle.tipc_replay.specs.Skies.{AirState, air_on}
@@ -36,6 +36,15 @@ pub record IsPairOf (a b : ℕ) (x : PairEnds) : Type 0 where
 abbrev pub IsSentBy : List (Option MemberState) → Sent → Type 0
 IsSentBy members f = (n : ℕ) × (f.from.word ≡ node_word n) × (has_member members n ≡ true)
 
+-- a message that a node of this address may send in a flow: what is broadcast are no name items
+pub record IsSaid (flow : Flow) (word : ℕ) (m : Message) : Type 0 where
+  pub sendable : IsSendable word m
+  pub stays : in_flow flow (Some m) ≡ Some m
+
+-- two other nodes, and a contact of theirs, whose numbers have 64 bits
+abbrev pub IsBetween : ℕ → ℕ → ℕ → ℕ → Type 0
+IsBetween a b own theirs = IsNumber a × IsNumber b × (a ≢ b) × (own < 2 ^ 64) × (theirs < 2 ^ 64)
+
 -- What every world keeps of its nodes, of each two of them, and of the frames in its air.
 pub record IsSound (members : List (Option MemberState)) (air : AirState) : Type 0 where
   -- a node has a number, and its address is that of its number
@@ -48,15 +57,15 @@ pub record IsSound (members : List (Option MemberState)) (air : AirState) : Type
   -- each two nodes are talking
   pub pairs : (a b : ℕ) → IsNumber a → IsNumber b → a ≢ b
       → AreSeen (sight_at members air a b) (sight_at members air b a)
-  -- messages are accepted and delivered in flow Zero alone; the node that accepted each can send it
-  pub one_flow : (a b own theirs : ℕ) (flow : Flow) → flow ≢ Zero
-      → (accepted_at members a b own theirs flow ≡ []) × (delivered_at members a b own theirs flow ≡ [])
-  pub accepted : (a b own theirs k : ℕ) (m : Message) → slice_get (accepted_at members a b own theirs Zero) k ≡ Some m
-      → IsSendable (node_word a) m
+  -- messages are accepted and delivered in flows Zero and Broadcast alone; the node that accepted each can send it there
+  pub no_flow_one : (a b own theirs : ℕ)
+      → (accepted_at members a b own theirs One ≡ []) × (delivered_at members a b own theirs One ≡ [])
+  pub accepted : (a b own theirs : ℕ) (flow : Flow) (k : ℕ) (m : Message) → slice_get (accepted_at members a b own theirs flow) k ≡ Some m
+      → IsSaid flow (node_word a) m
+  -- and so can the node that sent one that was delivered to it alone
   pub delivered : (a b own theirs k : ℕ) (m : Message)
       → slice_get (delivered_at members a b own theirs Zero) k ≡ Some m → IsSendable (node_word b) m
   -- what concerns a number that no node has, or the node itself, is nothing
-  pub nothing : (a b own theirs : ℕ) → delivered_at members a b own theirs Zero ≢ []
-      → IsNumber a × IsNumber b × (a ≢ b)
+  pub nothing : (a b own theirs : ℕ) (flow : Flow) → delivered_at members a b own theirs flow ≢ [] → IsBetween a b own theirs
   pub frames : (bearer k : ℕ) (f : Sent) → slice_get (air_on bearer air) k ≡ Some f → IsAirborne f
   pub senders : (bearer k : ℕ) (f : Sent) → slice_get (air_on bearer air) k ≡ Some f → IsSentBy members f

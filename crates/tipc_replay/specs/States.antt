@@ -1,5 +1,5 @@
 -- What nodes and the air between them are, as contracts see them, and what may be looked up in them.
-use Rattle.std.specs.Prelude.{ℕ, ◌==◌, Bool, false, ◌&&◌, List, [], ◌∷◌, ◌++◌, Option, None, Some, option_map, option_and_then, slice_get, slice_index_or, is_some, length, min, unwrap_or}
+use Rattle.std.specs.Prelude.{ℕ, ◌==◌, Bool, false, ◌&&◌, List, [], ◌∷◌, ◌++◌, Option, None, Some, option_map, option_and_then, slice_get, slice_index_or, is_some, length, min, nat_eq, unwrap_or, if◌then◌else◌}
 use Rattle.std.specs.List.{flat_map}
 use Rattle.std.specs.Map.{lookup}
 use Rattle.tipc_types.specs.Address.{node_word}
@@ -19,14 +19,15 @@ use Rattle.tipc_replay.specs.Numbers.{end_on, own_in, seen_in}
 use Rattle.tipc_replay.specs.Skies.{AirState, empty_air}
 
 -- A node over all its boots: the present one, the journals of those before it, how many calls the present boot has
--- recorded, every frame that ever arrived, and how many packets were numbered in sessions that are over, by peer, bearer and
--- own epoch.
+-- recorded, every frame that ever arrived, how many packets were numbered in sessions that are over, by peer, bearer and
+-- own epoch, and how many numbers its broadcast link used in each boot that is over.
 pub record MemberState : Type 0 where
   pub node : NodeState
   pub past : List (List Entry)
   pub calls : ℕ
   pub arrivals : List Arrived
   pub counts : List ((ℕ × ℕ × ℕ) × ℕ)
+  pub casts : List (ℕ × ℕ)
 
 -- nodes and the air between them: the nodes by number, every frame that was ever sent, and whether a frame was lost for want of memory
 pub record ReplayState : Type 0 where
@@ -86,6 +87,14 @@ count_with counts link peer bearer epoch =
 unfoldable pub count_of : MemberState → ℕ → ℕ → ℕ → ℕ
 count_of m peer bearer epoch = count_with m.counts (link_in m.node peer bearer) peer bearer epoch
 
+-- how many numbers are noted that the broadcast link used in a boot
+unfoldable pub casts_noted : List (ℕ × ℕ) → ℕ → ℕ
+casts_noted casts boot = unwrap_or (lookup (nat_eq boot) casts) 0
+
+-- how many numbers the broadcast link of a node used in a boot: in the present one, or as it is noted
+unfoldable pub cast_count_of : MemberState → ℕ → ℕ
+cast_count_of m boot = if boot == m.node.boot then m.node.casting.sending.numbered else casts_noted m.casts boot
+
 -- ---- of all nodes
 
 -- what is kept of node n, where it is there
@@ -144,6 +153,10 @@ history_at members n = unwrap_or (option_map history (member_at members n)) []
 -- how many packets node a has numbered for node b on a bearer under an epoch
 unfoldable pub count_at : List (Option MemberState) → ℕ → ℕ → ℕ → ℕ → ℕ
 count_at members a b bearer epoch = unwrap_or (option_map (λ m. count_of m b bearer epoch) (member_at members a)) 0
+
+-- how many numbers the broadcast link of node n used in a boot
+unfoldable pub cast_count_at : List (Option MemberState) → ℕ → ℕ → ℕ
+cast_count_at members n boot = unwrap_or (option_map (λ m. cast_count_of m boot) (member_at members n)) 0
 
 -- what node a accepted for node b in a contact, its own number first, and a flow
 unfoldable pub accepted_at : List (Option MemberState) → ℕ → ℕ → ℕ → ℕ → Flow → List Message

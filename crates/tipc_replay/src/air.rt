@@ -24,6 +24,12 @@ pub struct Sent {
     pub numbered: u64,
     /// How many packets the receiver had numbered by then, on this bearer, under the second epoch.
     pub peer_numbered: u64,
+    /// How many numbers the sender's broadcast link had used after the event, in its boot of then.
+    pub casts: u64,
+    /// The receiver's boot by then; 1 where the frame is for all.
+    pub peer_boot: u32,
+    /// How many numbers the receiver's broadcast link had used by then, in that boot; 0 where the frame is for all.
+    pub peer_casts: u64,
 }
 
 /// A frame that arrived at a node.

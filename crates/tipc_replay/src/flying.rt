@@ -3,21 +3,20 @@
 ghost use Rattle.std.specs.Prelude.{All, ◌≡◌, ◌<◌, ◌≤◌, ◌∷◌, ◌⊎◌, [], ℕ, true, false, Some, None, length, drop, is_some, if◌then◌else◌, slice_get, slice_index_or, unwrap_or, IfOk, IfSome, IfNone, IfErr, OnErr, OnOk};
 ghost use Rattle.tipc_types.specs.Address.{node_word};
 ghost use Rattle.tipc_types.specs.Limits.{most_age};
-ghost use Rattle.tipc_paired.specs.Views.{er_of, es_of};
 ghost use Rattle.tipc_outside.specs.Frames.{frames_leaving};
-ghost use Rattle.tipc_replay.specs.Air.{airborne, loose, met_in, met_sender, receiver_of, with_leaving, Emits, IsOut};
+ghost use Rattle.tipc_replay.specs.Air.{airborne, number_of_node, loose, met_in, met_sender, receiver_of, with_leaving, Emits, IsOut};
 ghost use Rattle.tipc_replay.specs.Calls.{may_end_contact, node_of};
-ghost use Rattle.tipc_replay.specs.Due.{age_of, frame_for, is_for, session_age, unarrived, HasNoSession, HasSession};
+ghost use Rattle.tipc_replay.specs.Due.{age_of, aging_by_header, aging_of, cast_age, frame_for, is_for, is_state, peer_cast_age, session_age, state_age, unarrived};
 ghost use Rattle.tipc_replay.specs.Members.{sender_of};
 ghost use Rattle.tipc_replay.specs.Skies.{air_on};
-ghost use Rattle.tipc_replay.specs.States.{boot_at, contact_at, count_at, numbers_at, pair_at};
+ghost use Rattle.tipc_replay.specs.States.{boot_at, cast_count_at, contact_at, count_at, numbers_at, pair_at};
 
 use crate::air::{Air, Sent};
 use crate::events::WorldEvent;
 use crate::members::{Member, sender_of};
 use std::alloc::Global;
 use std::collections::VecDeque;
-use tipc_header::{decode, open_frame};
+use tipc_header::{FrameKind, Header, decode, kind_of, open_frame};
 use tipc_link::is_traffic;
 use tipc_outside::{Outbox, Outgoing};
 use tipc_types::{Addr, Answer, NoMemory, To};
@@ -56,6 +55,35 @@ fn count_at(members: &[Option<Member>], a: u8, b: u8, bearer: u8, epoch: u64) ->
         Some(Some(member)) => member.count(b, bearer, epoch),
         _ => 0,
     }
+}
+
+/// How many numbers the broadcast link of node `n` used in a boot.
+#[tactic(auto, unfolding(crate::specs::States::cast_count_at, crate::specs::States::member_at))]
+fn cast_count_at(members: &[Option<Member>], n: u8, boot: u64) -> u64
+    ensures { result ≡ cast_count_at members.now n boot }
+{
+    match members.get(n as usize) {
+        Some(Some(member)) => member.cast_count(boot),
+        _ => 0,
+    }
+}
+
+/// The boot of node `n`; one that isn't there counts as one that has just begun its first.
+#[tactic(auto, unfolding(crate::specs::States::boot_at, crate::specs::States::member_at))]
+fn boot_at(members: &[Option<Member>], n: u8) -> u32
+    ensures { result ≡ boot_at members.now n }
+{
+    match members.get(n as usize) {
+        Some(Some(member)) => member.node().boot(),
+        _ => 1,
+    }
+}
+
+/// How many numbers the broadcast link of node `n` used in its present boot.
+fn cast_now(members: &[Option<Member>], n: u8) -> u64
+    ensures { result ≡ cast_count_at members.now n (boot_at members.now n) }
+{
+    cast_count_at(members, n, u64::from(boot_at(members, n)))
 }
 
 /// The contact number of node `a` for node `b`, and the highest that it was shown.
@@ -140,49 +168,136 @@ fn met_with(met: &Met, b: u8) -> Option<(u64, u64)>
 
 // ---- the age of a frame
 
-/// Whether a frame is a STATE or a numbered packet, and the epochs of its envelope.
+/// What the age of a frame is counted by.
 #[derive(Clone, Copy)]
-struct Epochs {
-    sender: u64,
-    receiver: u64,
+pub enum Aging {
+    /// Nothing: it is never too old.
+    Never,
+    /// The broadcast link of its sender in a boot.
+    Cast {
+        /// The boot, which is the first number of the envelope.
+        boot: u64,
+    },
+    /// Its session.
+    Numbered {
+        /// The sender's epoch.
+        sender: u64,
+        /// The receiver's epoch.
+        receiver: u64,
+    },
+    /// Its session, and the broadcast links of both nodes: a STATE speaks of all three.
+    State {
+        /// The sender's epoch.
+        sender: u64,
+        /// The receiver's epoch.
+        receiver: u64,
+    },
 }
 
-/// The epochs of the session of a frame: None where it is no STATE and no numbered packet.
-fn session_of(frame: &[u8]) -> Option<Epochs>
-    ensures some { IfSome result (λ e. HasSession frame.now e.sender e.receiver) }
-    ensures none { IfNone result (HasNoSession frame.now) }
+/// Whether a packet is a STATE.
+fn is_state(header: &Header) -> bool
+    ensures { result ≡ is_state header.now }
 {
-    let opened = open_frame(frame)?;
-    let Ok(packet) = decode(opened.packet) else {
-        return None;
-    };
-    if !is_traffic(&packet.header) {
-        return None;
+    match header {
+        Header::State(_) => true,
+        _ => false,
     }
-    Some(Epochs {
-        sender: opened.first,
-        receiver: opened.second,
-    })
 }
 
-/// How many packets were numbered since a frame was sent to node `n` on a bearer, in that bearer's session of the two epochs of its envelope:
-/// the larger number of its two directions.
-fn session_age(members: &[Option<Member>], sent: &Sent, n: u8, bearer: u8, epochs: Epochs) -> u64
-    requires sender { (n_from : ℕ) × (1 ≤ n_from) × (n_from ≤ 32) × (sent.now.from.word ≡ node_word n_from) }
-    requires epochs { (epochs.sender ≡ es_of sent.now.frame) × (epochs.receiver ≡ er_of sent.now.frame) }
-    ensures { result ≡ session_age members.now sent.now n bearer }
+/// What the age of a link packet is counted by: that of a STATE or a numbered packet alone grows.
+fn aging_by_header(sender: u64, receiver: u64, header: &Header) -> Aging
+    ensures { result ≡ aging_by_header sender receiver header.now }
+{
+    if !is_traffic(header) {
+        return Aging::Never;
+    }
+    if is_state(header) {
+        return Aging::State { sender, receiver };
+    }
+    Aging::Numbered { sender, receiver }
+}
+
+/// What the age of a frame is counted by.
+fn aging_of(frame: &[u8]) -> Aging
+    ensures { result ≡ aging_of frame.now }
+{
+    let Some(opened) = open_frame(frame) else {
+        return Aging::Never;
+    };
+    let Ok(packet) = decode(opened.packet) else {
+        return Aging::Never;
+    };
+    match kind_of(opened.first, &packet.header) {
+        FrameKind::Finds => Aging::Never,
+        FrameKind::Casts => Aging::Cast { boot: opened.first },
+        FrameKind::Links => aging_by_header(opened.first, opened.second, &packet.header),
+    }
+}
+
+/// The number of the node that sent a frame.
+fn sender_number(sent: &Sent) -> u8
+    requires { (n_from : ℕ) × (1 ≤ n_from) × (n_from ≤ 32) × (sent.now.from.word ≡ node_word n_from) }
+    ensures { result ≡ number_of_node sent.now.from.word }
 {
     let Some(from) = sent.from.number() else {
         unreachable!()
     };
-    let own = count_at(members, from, n, bearer, epochs.sender).saturating_sub(sent.numbered);
-    let peer = count_at(members, n, from, bearer, epochs.receiver).saturating_sub(
-        sent.peer_numbered,
-    );
+    from
+}
+
+/// How many packets were numbered since a frame was sent to node `n` on a bearer, in that bearer's session of two epochs, the sender's and the
+/// receiver's: the larger number of its two directions.
+fn session_age(
+    members: &[Option<Member>],
+    sent: &Sent,
+    n: u8,
+    bearer: u8,
+    sender: u64,
+    receiver: u64,
+) -> u64
+    requires sender { (n_from : ℕ) × (1 ≤ n_from) × (n_from ≤ 32) × (sent.now.from.word ≡ node_word n_from) }
+    ensures { result ≡ session_age members.now sent.now n bearer sender receiver }
+{
+    let from = sender_number(sent);
+    let own = count_at(members, from, n, bearer, sender).saturating_sub(sent.numbered);
+    let peer = count_at(members, n, from, bearer, receiver).saturating_sub(sent.peer_numbered);
     own.max(peer)
 }
 
-/// Whether a frame that was sent to node `n` on a bearer would be too old if it were a STATE or a numbered packet. Its packet isn't read.
+/// How many numbers the broadcast link of its sender used in a boot since a frame was sent.
+fn cast_age(members: &[Option<Member>], sent: &Sent, boot: u64) -> u64
+    requires { (n_from : ℕ) × (1 ≤ n_from) × (n_from ≤ 32) × (sent.now.from.word ≡ node_word n_from) }
+    ensures { result ≡ cast_age members.now sent.now boot }
+{
+    cast_count_at(members, sender_number(sent), boot).saturating_sub(sent.casts)
+}
+
+/// How many numbers the broadcast link of node `n` used since a frame was sent to it, in the boot of then.
+fn peer_cast_age(members: &[Option<Member>], sent: &Sent, n: u8) -> u64
+    ensures { result ≡ peer_cast_age members.now sent.now n }
+{
+    cast_count_at(members, n, u64::from(sent.peer_boot)).saturating_sub(sent.peer_casts)
+}
+
+/// The largest of these numbers, which is the age of a STATE. The sender's boot is that of the first epoch.
+fn state_age(
+    members: &[Option<Member>],
+    sent: &Sent,
+    n: u8,
+    bearer: u8,
+    sender: u64,
+    receiver: u64,
+) -> u64
+    requires { (n_from : ℕ) × (1 ≤ n_from) × (n_from ≤ 32) × (sent.now.from.word ≡ node_word n_from) }
+    ensures { result ≡ state_age members.now sent.now n bearer sender receiver }
+{
+    let session = session_age(members, sent, n, bearer, sender, receiver);
+    let own = cast_age(members, sent, sender >> 32);
+    let peer = peer_cast_age(members, sent, n);
+    session.max(own.max(peer))
+}
+
+/// Whether a frame that was sent to node `n` on a bearer would be too old, whatever its packet is. That isn't read.
 fn may_be_too_old(members: &[Option<Member>], sent: &Sent, n: u8, bearer: u8) -> bool
     requires { (n_from : ℕ) × (1 ≤ n_from) × (n_from ≤ 32) × (sent.now.from.word ≡ node_word n_from) }
     ensures { result ≡ false → age_of members.now sent.now n bearer ≤ most_age }
@@ -190,21 +305,25 @@ fn may_be_too_old(members: &[Option<Member>], sent: &Sent, n: u8, bearer: u8) ->
     let Some(opened) = open_frame(sent.frame.as_slice()) else {
         return false;
     };
-    let epochs = Epochs {
-        sender: opened.first,
-        receiver: opened.second,
-    };
-    session_age(members, sent, n, bearer, epochs) > OLDEST
+    state_age(members, sent, n, bearer, opened.first, opened.second) > OLDEST
+        || cast_age(members, sent, opened.first) > OLDEST
 }
 
-/// The age of a frame that was sent to node `n` on a bearer. The age of a STATE or a numbered packet alone grows.
+/// The age of a frame that was sent to node `n` on a bearer.
+#[tactic(auto, unfolding(crate::specs::Due::age_of))]
 fn age_of(members: &[Option<Member>], sent: &Sent, n: u8, bearer: u8) -> u64
     requires { (n_from : ℕ) × (1 ≤ n_from) × (n_from ≤ 32) × (sent.now.from.word ≡ node_word n_from) }
     ensures { result ≡ age_of members.now sent.now n bearer }
 {
-    match session_of(sent.frame.as_slice()) {
-        Some(epochs) => session_age(members, sent, n, bearer, epochs),
-        None => 0,
+    match aging_of(sent.frame.as_slice()) {
+        Aging::Never => 0,
+        Aging::Cast { boot } => cast_age(members, sent, boot),
+        Aging::Numbered { sender, receiver } => {
+            session_age(members, sent, n, bearer, sender, receiver)
+        }
+        Aging::State { sender, receiver } => {
+            state_age(members, sent, n, bearer, sender, receiver)
+        }
     }
 }
 
@@ -310,6 +429,9 @@ fn airborne(members: &[Option<Member>], met: &Met, a: u8, outgoing: Outgoing) ->
         contact: told_in(members, met, a, to),
         numbered: count_at(members, a, to, outgoing.bearer, first),
         peer_numbered: count_at(members, to, a, outgoing.bearer, second),
+        casts: cast_now(members, a),
+        peer_boot: boot_at(members, to),
+        peer_casts: cast_now(members, to),
         frame: outgoing.frame,
     }
 }

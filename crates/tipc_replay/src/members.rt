@@ -1,7 +1,7 @@
 //! A node over all its boots, with their journals.
 
-ghost use Rattle.std.specs.Prelude.{◌≡◌, ◌+◌, ◌<◌, ◌≤◌, [], ℕ, true, false, None, length, map, option_and_then, option_map, IfErr, IfOk, OnErr, OnOk};
-ghost use Rattle.indexmap.specs.IndexMap.{spare};
+ghost use Rattle.std.specs.Prelude.{◌≡◌, ◌+◌, ◌<◌, ◌≤◌, [], ℕ, true, false, None, length, map, nat_eq, option_and_then, option_map, IfErr, IfOk, OnErr, OnOk};
+ghost use Rattle.indexmap.specs.IndexMap.{insert_entry, spare};
 ghost use Rattle.tipc_types.specs.Address.{node_word};
 ghost use Rattle.tipc_header.specs.Reading.{word_at};
 ghost use Rattle.tipc_journal.specs.Matches.{names};
@@ -19,7 +19,7 @@ ghost use Rattle.tipc_replay.specs.Effects.{Did};
 ghost use Rattle.tipc_replay.specs.Events.{IsSettledAt};
 ghost use Rattle.tipc_replay.specs.Members.{last_in, noted, noted_both, over_in, over_with, sender_of, AreNoted, IsFresh, IsNewcomer, IsRestarted};
 ghost use Rattle.tipc_replay.specs.Numbers.{own_in, seen_in};
-ghost use Rattle.tipc_replay.specs.States.{count_in, count_of, counted, history, joined, link_in, stream_of};
+ghost use Rattle.tipc_replay.specs.States.{cast_count_of, count_in, count_of, counted, history, joined, link_in, stream_of};
 
 use crate::air::Arrived;
 use crate::events::WorldEvent;
@@ -36,6 +36,9 @@ use tipc_types::{Addr, Answer, By, EventNote, Flow, LinkState, NoMemory, Publica
 /// How many packets were numbered in sessions that are over, by the peer's number, the bearer, and the node's own epoch.
 type Counts = IndexMap<(u8, u8, u64), u64>;
 
+/// How many numbers the broadcast link used in boots that are over, by boot.
+type Casts = IndexMap<u64, u64>;
+
 /// A node over all its boots.
 #[derive(Drop)]
 pub struct Member {
@@ -44,6 +47,7 @@ pub struct Member {
     calls: u64,
     arrivals: Vec<Arrived>,
     counts: Counts,
+    casts: Casts,
 }
 
 impl Model for Member {
@@ -58,6 +62,7 @@ impl Model for Member {
       calls = m.calls;
       arrivals = m.arrivals.items;
       counts = m.counts.entries;
+      casts = m.casts.entries;
     } };
 
     ghost invariant = { λ m. m.calls ≤ length m.node.journal };
@@ -150,6 +155,17 @@ fn note_all(counts: &mut Counts, node: &Node)
     }
 }
 
+/// Notes how many numbers the broadcast link of a node used in its boot. There is room for one more number.
+fn note_casts(casts: &mut Casts, node: &Node)
+    requires room { 0 < spare casts.old }
+    ensures { casts.new.entries ≡ insert_entry nat_eq casts.old.entries node.now.boot node.now.casting.sending.numbered }
+{
+    match casts.insert(u64::from(node.boot()), node.broadcast_numbered()) {
+        Ok(_) => {}
+        Err(_) => unreachable!(),
+    }
+}
+
 /// The word in which a frame names its sender.
 #[tactic(auto, unfolding(tipc_header::specs::Reading::word_at))]
 fn sender_word(frame: &[u8]) -> u32
@@ -227,6 +243,7 @@ impl Member {
             calls: 0,
             arrivals: Vec::new(alloc),
             counts: IndexMap::new(alloc),
+            casts: IndexMap::new(alloc),
         })
     }
 
@@ -273,6 +290,20 @@ impl Member {
         match self.numbered(peer, bearer, epoch) {
             Some(count) => count,
             None => self.noted(peer, bearer, epoch),
+        }
+    }
+
+    /// How many numbers its broadcast link used in a boot.
+    #[tactic(auto, unfolding(crate::specs::States::cast_count_of, crate::specs::States::casts_noted))]
+    pub fn cast_count(&self, boot: u64) -> u64
+        ensures { result ≡ cast_count_of self.now boot }
+    {
+        if boot == u64::from(self.node.boot()) {
+            return self.node.broadcast_numbered();
+        }
+        match self.casts.get(&boot) {
+            Some(count) => *count,
+            None => 0,
         }
     }
 
@@ -417,7 +448,7 @@ impl Member {
         Ok(answer)
     }
 
-    /// Is restarted: its journal is kept, its sessions are noted, and it begins its next boot.
+    /// Is restarted: its journal is kept, its sessions and the numbers of its broadcast link are noted, and it begins its next boot.
     pub fn restart(&mut self, alloc: Global) -> Result<Answer, NodeFault>
         requires settled { (n : ℕ) × IsSettledAt self.old n }
         requires next { self.old.node.boot < 4294967295 }
@@ -427,8 +458,10 @@ impl Member {
     {
         self.past.reserve(1)?;
         self.counts.reserve(66)?;
+        self.casts.reserve(1)?;
         let next = Node::new(alloc, self.node.own(), self.node.boot() + 1)?;
         note_all(&mut self.counts, &self.node);
+        note_casts(&mut self.casts, &self.node);
         let last = std::mem::replace(&mut self.node, next);
         self.past.push_reserved(last.into_journal());
         self.calls = 0;

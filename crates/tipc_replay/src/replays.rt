@@ -8,8 +8,8 @@ ghost use Rattle.tipc_replay.specs.Due.{frame_for, unarrived};
 ghost use Rattle.tipc_replay.specs.Events.{AreSettled, DidAt, IsSettledAt, JoinsAt};
 ghost use Rattle.tipc_replay.specs.Growth.{StageGrows};
 ghost use Rattle.tipc_replay.specs.Replayed.{IsReplayed};
-ghost use Rattle.tipc_replay.specs.Sound.{IsSound};
 ghost use Rattle.tipc_replay.specs.States.{empty_replay, has_member, MemberState};
+ghost use Rattle.tipc_replay.specs.Steady.{IsSteady};
 ghost use Rattle.tipc_replay.specs.Steps.{stage, Becomes, Happens, IsArrival, IsReplayJoined, IsReplayStep};
 
 use crate::air::Air;
@@ -39,19 +39,14 @@ pub struct Replay {
 }
 
 impl Model for Replay {
-    ghost use Rattle.tipc_replay.specs.Answered.{AllAnswered};
-    ghost use Rattle.tipc_replay.specs.Received.{AreReceived};
-    ghost use Rattle.tipc_replay.specs.Shared.{AreShared};
-    ghost use Rattle.tipc_replay.specs.Sound.{IsSound};
     ghost use Rattle.tipc_replay.specs.States.{ReplayState};
-    ghost use Rattle.tipc_replay.specs.Watched.{AreWatched};
+    ghost use Rattle.tipc_replay.specs.Steady.{IsSteady};
 
     ghost Value = { ReplayState };
 
     ghost view = { λ r. record { members = r.members.items; air = r.air; lost = r.lost } };
 
-    ghost invariant = { λ r. IsSound r.members.items r.air × AreWatched r.members.items r.air
-        × AreShared r.members.items × AllAnswered r.members.items × AreReceived r.members.items r.air };
+    ghost invariant = { λ r. IsSteady r.members.items r.air };
 }
 
 /// Makes room for the node of every number, without changing any look-up.
@@ -184,7 +179,7 @@ fn turn<P: Pick>(
     requires next { HasNextBoot members.old.items event }
     requires other { (node bearer frame : ℕ) → event ≢ WorldEvent.Arrive node bearer frame }
     requires settled { AreSettled members.old.items }
-    requires sound { IsSound members.old.items air.old }
+    requires steady { IsSteady members.old.items air.old }
     ensures happens { IfOk result (λ h. Happens (stage members.old.items air.old)
         (stage members.new.items air.new) by event [] h.answer h.lost × (h.counted ≡ true)) }
     ensures chose { IfOk result (λ h. ChoosesAt P.gives members.old.items event h.answer chooser.old chooser.new) }
@@ -218,7 +213,7 @@ fn arrive(
 ) -> Result<Happened, NodeFault>
     requires there { is_some (slice_index_or members.old.items node None) ≡ true }
     requires settled { AreSettled members.old.items }
-    requires sound { IsSound members.old.items air.old }
+    requires steady { IsSteady members.old.items air.old }
     ensures arrives { IfOk result (λ h. IsArrival (stage members.old.items air.old)
         (stage members.new.items air.new) by node bearer place h.answer h.lost) }
     ensures counted { IfOk result (λ h.
@@ -263,7 +258,7 @@ fn happen<P: Pick>(
     requires can { CanHappenAt members.old.items event }
     requires next { HasNextBoot members.old.items event }
     requires settled { AreSettled members.old.items }
-    requires sound { IsSound members.old.items air.old }
+    requires steady { IsSteady members.old.items air.old }
     ensures becomes { IfOk result (λ h. Becomes (stage members.old.items air.old) by event
         (stage members.new.items air.new) h.answer h.lost) }
     ensures chose { IfOk result (λ h. ChoosesAt P.gives members.old.items event h.answer chooser.old chooser.new) }

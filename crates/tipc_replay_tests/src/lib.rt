@@ -2,6 +2,10 @@
 #![tactic(auto)]
 
 #[cfg(test)]
+mod casting;
+#[cfg(test)]
 mod hearing;
+#[cfg(test)]
+mod promising;
 #[cfg(test)]
 mod replay;

@@ -6,8 +6,9 @@ use Rattle.tipc_types.specs.declared.message_forms.Importance.{Importance}
 use Rattle.tipc_types.specs.declared.services.Scope.{Scope}
 use Rattle.tipc_types.specs.Address.{node_word}
 use Rattle.tipc_script.specs.declared.lines.Destination.{Destination}
-use Rattle.tipc_script.specs.declared.lines.Destination.TheVariants.{Port, Name}
+use Rattle.tipc_script.specs.declared.lines.Destination.TheVariants.{Port, Name, Cast}
 use Rattle.tipc_script.specs.declared.lines.Line.TheVariants.{Close, Publish, Withdraw, Send, Repeat, Burst}
+use Rattle.tipc_script.specs.Kinds.{form_in}
 use Rattle.tipc_script.specs.Grammar.{burst_row, close_row, publish_row, repeat_row, row_of, send_row, withdraw_row}
 use Rattle.tipc_script.specs.Spelling.{Asks, IsMessage, body_word, node_number, port_at, scope_word, send_words}
 use Rattle.tipc_script.specs.Faults.{end_fault, first_fault, row_fault}
@@ -69,10 +70,11 @@ message_spelled n p to body h =
       text = is_word body h.told;
     }
 
--- what holds of the two numbers of a destination
+-- what holds of the numbers of a destination
 abbrev AreNumerals : Destination → Type 0
 AreNumerals (Port to) = IsNumeral 1 32 (node_number to) × IsNumeral 0 4294967295 to.port × (node_word (node_number to) ≡ to.node.word)
 AreNumerals (Name kind instance) = IsNumeral 0 4294967295 kind × IsNumeral 0 4294967295 instance
+AreNumerals (Cast kind lower upper) = IsNumeral 0 4294967295 kind × IsNumeral 0 4294967295 lower × IsNumeral 0 4294967295 upper
 
 destination_spelled : (n p : ℕ) (to : Destination) (body : List ℕ) → IsMessage n p to body → AreNumerals to
 destination_spelled n p (Port to) body h =
@@ -88,9 +90,17 @@ destination_spelled n p (Name kind instance) body h =
       numeral 0 4294967295 kind (omega arith) (omega (arith, first)) (omega (arith, first)),
       numeral 0 4294967295 instance (omega arith) (omega (arith, second)) (omega (arith, second)),
     )
+destination_spelled n p (Cast kind lower upper) body h =
+    let first = h.whom.0 in
+    let second = h.whom.1 in
+    let third = h.whom.2 in (
+      numeral 0 4294967295 kind (omega arith) (omega (arith, first)) (omega (arith, first)),
+      numeral 0 4294967295 lower (omega arith) (omega (arith, second)) (omega (arith, second)),
+      numeral 0 4294967295 upper (omega arith) (omega (arith, third)) (omega (arith, third)),
+    )
 
 pub send_accepted : (text : List ℕ) (n p : ℕ) (to : Destination) (importance : Importance) (body : List ℕ) → Asks text (Send n p to importance body) → IsAccepted text (Send n p to importance body)
-unfolding row_of row_fault first_fault end_fault
+unfolding row_of row_fault first_fault end_fault form_in
 send_accepted text n p (Port to) importance body h =
     let s = message_spelled n p (Port to) body h.0 in
     let d = destination_spelled n p (Port to) body h.0 in
@@ -107,9 +117,17 @@ send_accepted text n p (Name kind instance) importance body h =
     (rw (s.node.whole, s.port.whole, d.0.whole, d.1.whole, no_space-importance importance, s.text.whole) refl) refl
     (rw (s.node.is, s.port.is, d.0.is, d.1.is, is_importance-word importance, s.text.is) refl)
     (rw (s.node.value, d.0.value, s.port.value, d.1.value, i-is, s.text.bytes) refl)
+send_accepted text n p (Cast kind lower upper) importance body h =
+    let s = message_spelled n p (Cast kind lower upper) body h.0 in
+    let d = destination_spelled n p (Cast kind lower upper) body h.0 in
+    let i-is = importance_of-word importance in
+    spelled text send_row (drop 1 (send_words n p (Cast kind lower upper) importance body)) (Send n p (Cast kind lower upper) importance body) h.1 refl
+    (rw (s.node.whole, s.port.whole, d.0.whole, d.1.whole, d.2.whole, no_space-importance importance, s.text.whole) refl) refl
+    (rw (s.node.is, s.port.is, d.0.is, d.1.is, d.2.is, is_importance-word importance, s.text.is) refl)
+    (rw (s.node.value, d.0.value, s.port.value, d.1.value, d.2.value, i-is, s.text.bytes) refl)
 
 pub repeat_accepted : (text : List ℕ) (c n p : ℕ) (to : Destination) (importance : Importance) (body : List ℕ) → Asks text (Repeat c n p to importance body) → IsAccepted text (Repeat c n p to importance body)
-unfolding row_of row_fault first_fault end_fault
+unfolding row_of row_fault first_fault end_fault form_in
 repeat_accepted text c n p (Port to) importance body h =
     let s = message_spelled n p (Port to) body h.0.1 in
     let d = destination_spelled n p (Port to) body h.0.1 in
@@ -128,6 +146,15 @@ repeat_accepted text c n p (Name kind instance) importance body h =
     (rw (times.whole, s.node.whole, s.port.whole, d.0.whole, d.1.whole, no_space-importance importance, s.text.whole) refl) refl
     (rw (times.is, s.node.is, s.port.is, d.0.is, d.1.is, is_importance-word importance, s.text.is) refl)
     (rw (times.value, s.node.value, d.0.value, s.port.value, d.1.value, i-is, s.text.bytes) refl)
+repeat_accepted text c n p (Cast kind lower upper) importance body h =
+    let s = message_spelled n p (Cast kind lower upper) body h.0.1 in
+    let d = destination_spelled n p (Cast kind lower upper) body h.0.1 in
+    let times = numeral 1 1000000 c h.0.0.0 h.0.0.1 (omega (arith, h.0.0.1)) in
+    let i-is = importance_of-word importance in
+    spelled text repeat_row (decimal c ∷ send_words n p (Cast kind lower upper) importance body) (Repeat c n p (Cast kind lower upper) importance body) h.1 refl
+    (rw (times.whole, s.node.whole, s.port.whole, d.0.whole, d.1.whole, d.2.whole, no_space-importance importance, s.text.whole) refl) refl
+    (rw (times.is, s.node.is, s.port.is, d.0.is, d.1.is, d.2.is, is_importance-word importance, s.text.is) refl)
+    (rw (times.value, s.node.value, d.0.value, s.port.value, d.1.value, d.2.value, i-is, s.text.bytes) refl)
 
 pub burst_accepted : (text : List ℕ) (n p m q c : ℕ) (body : List ℕ) → Asks text (Burst n p m q c body) → IsAccepted text (Burst n p m q c body)
 unfolding row_of row_fault first_fault end_fault

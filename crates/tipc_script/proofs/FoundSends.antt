@@ -1,17 +1,18 @@
 -- Lines of sockets, services and messages without a fault are lines of the grammar.
-use Rattle.std.proofs.Common.{◌≡◌, ℕ, true, false, List, [], ◌∷◌, drop, ap, ◌∙◌, arith, inl, inr}
+use Rattle.std.proofs.Common.{◌≡◌, ℕ, List, [], ◌∷◌, drop, refl, ap, ◌∙◌, arith}
 use Rattle.std.specs.Prelude.{codes}
 use Rattle.std.specs.Fmt.{decimal}
-use Rattle.std.proofs.lemmas.Bool.{cases_Bool}
 use Rattle.tipc_types.specs.declared.message_forms.Importance.{Importance}
 use Rattle.tipc_script.specs.declared.lines.Destination.{Destination}
 use Rattle.tipc_script.specs.declared.lines.Destination.TheVariants as destination
+use Rattle.tipc_script.specs.declared.lines.SendForm.{SendForm}
+use Rattle.tipc_script.specs.declared.lines.SendForm.TheVariants as form
 use Rattle.tipc_script.specs.Splitting.{Left, first_token, behind}
 use Rattle.tipc_script.specs.Kinds.{FormWord, OldNode, AnyNumber, body_of, importance_of, scope_of}
-use Rattle.tipc_script.specs.Grammar.{burst_row, close_row, destination_in, first_number, is_by_name, name_kinds, port_kinds, publish_row, repeat_row, send_kinds, send_row, withdraw_row}
+use Rattle.tipc_script.specs.Grammar.{behind_destination, burst_row, cast_kinds, close_row, destination_in, first_number, kinds_behind, name_kinds, port_kinds, publish_row, repeat_row, send_kinds, send_row, sent_form, withdraw_row}
 use Rattle.tipc_script.specs.Spelling.{IsMessage, body_word, port_at, scope_word, send_words}
 use Rattle.tipc_script.proofs.Reading.{AreTaken}
-use Rattle.tipc_script.proofs.Spelled.{IsFound, body_taken, importance_taken, name_taken, node_number_at, number_taken, port_taken, respelled, scope_taken, word_taken}
+use Rattle.tipc_script.proofs.Spelled.{IsFound, body_taken, form_taken, importance_taken, node_number_at, number_taken, respelled, scope_taken, word_taken}
 
 pub close_found : IsFound close_row
 close_found text left e h =
@@ -69,15 +70,15 @@ record IsSent (left : Left) (node port : ℕ) (to : Destination) (importance : I
   tokens : left.tokens ≡ drop 1 (send_words node port to importance body)
 
 -- the same, with the destination of a form
-abbrev IsSentBy : Left → Destination → Type 0
-IsSentBy left to =
+abbrev IsSentBy : SendForm → Left → Type 0
+IsSentBy by left =
     let p = behind left in
-    let i = behind (behind (behind (behind p))) in
-    IsSent left (first_number left) (first_number p) to (importance_of (first_token i)) (body_of (first_token (behind i)))
+    let to = behind (behind p) in
+    let i = behind_destination by to in
+    IsSent left (first_number left) (first_number p) (destination_in by to) (importance_of (first_token i)) (body_of (first_token (behind i)))
 
-sent_by_name : (left : Left) → is_by_name left ≡ true → AreTaken (OldNode ∷ AnyNumber ∷ FormWord ∷ name_kinds) left
-    → IsSentBy left (destination_in true (behind (behind (behind left))))
-sent_by_name left named h =
+sent_by_name : (left : Left) → sent_form left ≡ form.Name → AreTaken (OldNode ∷ AnyNumber ∷ FormWord ∷ name_kinds) left → IsSentBy form.Name left
+sent_by_name left is h =
     let p = behind left in
     let f = behind p in
     let k = behind f in
@@ -86,7 +87,7 @@ sent_by_name left named h =
     let b = behind i in
     let node = number_taken 1 32 left h.0 in
     let port = number_taken 0 4294967295 p h.1.0 in
-    let form = name_taken f h.1.1.0 named in
+    let by = form_taken form.Name f is h.1.1.0 in
     let kind = number_taken 0 4294967295 k h.1.1.1.0 in
     let instance = number_taken 0 4294967295 x h.1.1.1.1.0 in
     let importance = importance_taken i h.1.1.1.1.1.0 in
@@ -102,9 +103,8 @@ sent_by_name left named h =
       tokens = cc;
     }
 
-sent_to_port : (left : Left) → is_by_name left ≡ false → AreTaken (OldNode ∷ AnyNumber ∷ FormWord ∷ port_kinds) left
-    → IsSentBy left (destination_in false (behind (behind (behind left))))
-sent_to_port left unnamed h =
+sent_to_port : (left : Left) → sent_form left ≡ form.Port → AreTaken (OldNode ∷ AnyNumber ∷ FormWord ∷ port_kinds) left → IsSentBy form.Port left
+sent_to_port left is h =
     let p = behind left in
     let f = behind p in
     let m = behind f in
@@ -113,7 +113,7 @@ sent_to_port left unnamed h =
     let b = behind i in
     let node = number_taken 1 32 left h.0 in
     let port = number_taken 0 4294967295 p h.1.0 in
-    let form = port_taken f h.1.1.0 unnamed in
+    let by = form_taken form.Port f is h.1.1.0 in
     let to = number_taken 1 32 m h.1.1.1.0 in
     let at = number_taken 0 4294967295 q h.1.1.1.1.0 in
     let importance = importance_taken i h.1.1.1.1.1.0 in
@@ -130,12 +130,41 @@ sent_to_port left unnamed h =
       tokens = rw back cc;
     }
 
-sent_taken : (left : Left) → AreTaken (send_kinds left) left → IsSentBy left (destination_in (is_by_name left) (behind (behind (behind left))))
-sent_taken left h =
-    elim (cases_Bool (is_by_name left)) [
-      | inl named ↦ rw named (sent_by_name left named (rw named at h))
-      | inr unnamed ↦ rw unnamed (sent_to_port left unnamed (rw unnamed at h))
-    ]
+sent_to_all : (left : Left) → sent_form left ≡ form.Cast → AreTaken (OldNode ∷ AnyNumber ∷ FormWord ∷ cast_kinds) left → IsSentBy form.Cast left
+sent_to_all left is h =
+    let p = behind left in
+    let f = behind p in
+    let k = behind f in
+    let l = behind k in
+    let u = behind l in
+    let i = behind u in
+    let b = behind i in
+    let node = number_taken 1 32 left h.0 in
+    let port = number_taken 0 4294967295 p h.1.0 in
+    let by = form_taken form.Cast f is h.1.1.0 in
+    let kind = number_taken 0 4294967295 k h.1.1.1.0 in
+    let lower = number_taken 0 4294967295 l h.1.1.1.1.0 in
+    let upper = number_taken 0 4294967295 u h.1.1.1.1.1.0 in
+    let importance = importance_taken i h.1.1.1.1.1.1.0 in
+    let body = body_taken b h.1.1.1.1.1.1.1.0 in
+    let last = h.1.1.1.1.1.1.1.1 in
+    record {
+      message = record {
+        from_node = (node.1, node.2);
+        from_port = omega (arith, port.2);
+        whom = (omega (arith, kind.2), omega (arith, lower.2), omega (arith, upper.2));
+        told = body.1;
+      };
+      tokens = cc;
+    }
+
+sent_by : (by : SendForm) (left : Left) → sent_form left ≡ by → AreTaken (OldNode ∷ AnyNumber ∷ FormWord ∷ kinds_behind by) left → IsSentBy by left
+sent_by form.Name left is h = sent_by_name left is h
+sent_by form.Port left is h = sent_to_port left is h
+sent_by form.Cast left is h = sent_to_all left is h
+
+sent_taken : (left : Left) → AreTaken (send_kinds left) left → IsSentBy (sent_form left) left
+sent_taken left h = sent_by (sent_form left) left refl h
 
 pub send_found : IsFound send_row
 send_found text left e h =

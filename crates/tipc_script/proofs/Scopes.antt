@@ -1,4 +1,4 @@
--- Words of scope and of filters.
+-- Words of scope, of filters and of forms of destinations.
 use Rattle.std.proofs.Common.{◌≡◌, true, false, List, ℕ, refl, inl, inr}
 use Rattle.std.specs.Prelude.{codes}
 use Rattle.std.specs.Str.{bytes_eq}
@@ -8,8 +8,8 @@ use Rattle.tipc_types.specs.declared.services.Scope.{Scope}
 use Rattle.tipc_types.specs.declared.services.Scope.TheVariants.{Zone, Cluster, Node}
 use Rattle.tipc_script.specs.declared.lines.Filter.{Filter}
 use Rattle.tipc_script.specs.declared.lines.Filter.TheVariants.{Ports, Service}
-use Rattle.tipc_script.specs.Kinds.{filter_in, filter_of, is_filter, is_scope, scope_in, scope_of}
-use Rattle.tipc_script.specs.Spelling.{filter_word, scope_word}
+use Rattle.tipc_script.specs.Kinds.{filter_in, filter_of, form_in, form_of, is_filter, is_form, is_scope, scope_in, scope_of}
+use Rattle.tipc_script.specs.Spelling.{filter_word, form_word, scope_word}
 use Rattle.tipc_script.proofs.Spaces.{has_no_space}
 
 is_the_word : (token word : List ℕ) → bytes_eq token word ≡ true → token ≡ word
@@ -75,3 +75,20 @@ filter_of-word Service = refl
 pub no_space-filter : (filter : Filter) → has_no_space (filter_word filter) ≡ true
 no_space-filter Ports = refl
 no_space-filter Service = refl
+
+-- a word of a form is that of the form that it stands for
+pub form_spelled : (token : List ℕ) → is_form token ≡ true → token ≡ form_word (form_of token)
+unfolding form_in
+form_spelled token e =
+    elim (cases_Bool (bytes_eq token (codes "name"))) [
+      | inl name ↦ rw name (is_the_word token (codes "name") name)
+      | inr not_name ↦
+          elim (cases_Bool (bytes_eq token (codes "port"))) [
+            | inl port ↦ rw (not_name, port) (is_the_word token (codes "port") port)
+            | inr not_port ↦
+                elim (cases_Bool (bytes_eq token (codes "cast"))) [
+                  | inl cast ↦ rw (not_name, not_port, cast) (is_the_word token (codes "cast") cast)
+                  | inr not_cast ↦ absurd (let f : is_form token ≡ false = rw (not_name, not_port, not_cast) refl in cc)
+                ]
+          ]
+    ]

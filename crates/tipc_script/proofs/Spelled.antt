@@ -1,17 +1,17 @@
 -- Tokens that are of their kind, as they are spelled.
-use Rattle.std.proofs.Common.{◌≡◌, ℕ, ◌≤◌, ◌||◌, Bool, true, false, List, ◌∷◌, sym, ap, ◌∙◌, arith}
-use Rattle.std.specs.Prelude.{codes}
+use Rattle.std.proofs.Common.{◌≡◌, ℕ, ◌≤◌, true, List, ◌∷◌, ap, ◌∙◌, arith}
 use Rattle.std.specs.Str.{bytes_eq}
 use Rattle.std.specs.Fmt.{decimal}
 use Rattle.std.proofs.lemmas.Slice.Eq.{bytes_eq-Decides}
+use Rattle.tipc_script.specs.declared.lines.SendForm.{SendForm}
 use Rattle.tipc_script.specs.Splitting.{Left, first_token, behind}
-use Rattle.tipc_script.specs.Kinds.{body_of, filter_of, importance_of, is_body, is_filter, is_form, is_importance, is_name, is_number, is_scope, scope_of}
+use Rattle.tipc_script.specs.Kinds.{body_of, filter_of, form_of, importance_of, is_body, is_filter, is_form, is_importance, is_number, is_scope, scope_of}
 use Rattle.tipc_script.specs.Grammar.{Row, first_number}
-use Rattle.tipc_script.specs.Spelling.{Asks, IsBody, body_word, filter_word, importance_word, node_number, port_at, scope_word, spaced}
+use Rattle.tipc_script.specs.Spelling.{Asks, IsBody, body_word, filter_word, form_word, importance_word, node_number, port_at, scope_word, spaced}
 use Rattle.tipc_script.proofs.Numerals.{is_number_parts}
 use Rattle.tipc_script.proofs.Bodies.{is_body_parts}
 use Rattle.tipc_script.proofs.Importances.{importance_spelled}
-use Rattle.tipc_script.proofs.Scopes.{filter_spelled, scope_spelled}
+use Rattle.tipc_script.proofs.Scopes.{filter_spelled, form_spelled, scope_spelled}
 use Rattle.tipc_script.proofs.Reading.{IsTaken, AreTaken}
 
 -- behind the row's word, no fault means that the line asks for what the row says
@@ -35,17 +35,9 @@ is_the_word token word e = (bytes_eq-Decides token word).0 e
 pub word_taken : (word : List ℕ) (left : Left) → IsTaken (λ token. bytes_eq token word) left → left.tokens ≡ word ∷ (behind left).tokens
 word_taken word left h = h.there ∙ ap (λ t. t ∷ (behind left).tokens) (is_the_word (first_token left) word h.passes)
 
-or_right : (a b : Bool) → a ≡ false → (a || b) ≡ true → b ≡ true
-or_right a b none e = sym (ap (λ x. x || b) none) ∙ e
-
--- a form that is a name, and one that is none
-pub name_taken : (left : Left) → IsTaken is_form left → is_name (first_token left) ≡ true → left.tokens ≡ codes "name" ∷ (behind left).tokens
-name_taken left h named = h.there ∙ ap (λ t. t ∷ (behind left).tokens) (is_the_word (first_token left) (codes "name") named)
-
-pub port_taken : (left : Left) → IsTaken is_form left → is_name (first_token left) ≡ false → left.tokens ≡ codes "port" ∷ (behind left).tokens
-port_taken left h unnamed =
-    let port = or_right (is_name (first_token left)) _ unnamed h.passes in
-    h.there ∙ ap (λ t. t ∷ (behind left).tokens) (is_the_word (first_token left) (codes "port") port)
+-- a token that is this form, as it is spelled
+pub form_taken : (form : SendForm) (left : Left) → form_of (first_token left) ≡ form → IsTaken is_form left → left.tokens ≡ form_word form ∷ (behind left).tokens
+form_taken form left is h = h.there ∙ ap (λ t. t ∷ (behind left).tokens) (form_spelled (first_token left) h.passes ∙ ap form_word is)
 
 -- a token that is a body, as it is spelled
 pub body_taken : (left : Left) → IsTaken is_body left → (left.tokens ≡ body_word (body_of (first_token left)) ∷ (behind left).tokens) × IsBody (body_of (first_token left))

@@ -1,14 +1,16 @@
 -- The grammar of a line: a row for each first word, with what the tokens behind that word have to be, and
 -- what the line asks for.
-use Rattle.std.specs.Prelude.{ℕ, Bool, List, [], ◌∷◌, ◌++◌, Option, Some, None, codes, true, false, if◌then◌else◌}
+use Rattle.std.specs.Prelude.{ℕ, List, [], ◌∷◌, ◌++◌, Option, Some, None, codes, true, false, if◌then◌else◌}
 use Rattle.std.specs.Str.{bytes_eq}
 use Rattle.tipc_script.specs.declared.lines.Destination.{Destination}
 use Rattle.tipc_script.specs.declared.lines.Destination.TheVariants as destination
 use Rattle.tipc_script.specs.declared.lines.Line.{Line}
 use Rattle.tipc_script.specs.declared.lines.Line.TheVariants as line
 use Rattle.tipc_script.specs.declared.lines.NodeToken.{NodeToken}
+use Rattle.tipc_script.specs.declared.lines.SendForm.{SendForm}
+use Rattle.tipc_script.specs.declared.lines.SendForm.TheVariants as form
 use Rattle.tipc_script.specs.Splitting.{Left, whole, first_token, behind}
-use Rattle.tipc_script.specs.Kinds.{Kind, NewNode, OldNode, AnyNode, BearerNumber, AnyNumber, FrameNumber, RoundsNumber, TimesNumber, SendWord, FormWord, ScopeWord, FilterWord, ImportanceWord, BodyText, body_of, filter_of, importance_of, is_name, is_remark, number_of, scope_of}
+use Rattle.tipc_script.specs.Kinds.{Kind, NewNode, OldNode, AnyNode, BearerNumber, AnyNumber, FrameNumber, RoundsNumber, TimesNumber, SendWord, FormWord, ScopeWord, FilterWord, ImportanceWord, BodyText, body_of, filter_of, form_of, importance_of, is_remark, number_of, scope_of}
 use Rattle.tipc_script.specs.Spelling.{port_at}
 
 -- A row. What is left behind the first word tells which form the line has, and so of which kinds its tokens have to be.
@@ -97,11 +99,11 @@ event_row = record { word = codes "event"; kinds = λ left. OldNode ∷ AnyNumbe
 abbrev pub cancel_row : Row
 cancel_row = record { word = codes "cancel"; kinds = λ left. OldNode ∷ AnyNumber ∷ []; asks = λ node. line.Cancel (first_number node) (first_number (behind node)) }
 
--- a line that sends, from its first number on, names a service: else it names a port
-abbrev pub is_by_name : Left → Bool
-is_by_name node = is_name (first_token (behind (behind node)))
+-- the form of the destination in a line that sends, from its first number on
+abbrev pub sent_form : Left → SendForm
+sent_form node = form_of (first_token (behind (behind node)))
 
--- what the tokens have to be behind the word that tells the form: a service type and an instance, or a node and a port; and then the message
+-- what the tokens have to be behind the word `name`: the service type, the instance, the importance and the body
 abbrev pub name_kinds : List Kind
 name_kinds = AnyNumber ∷ AnyNumber ∷ ImportanceWord ∷ BodyText ∷ []
 
@@ -109,26 +111,43 @@ name_kinds = AnyNumber ∷ AnyNumber ∷ ImportanceWord ∷ BodyText ∷ []
 abbrev pub port_kinds : List Kind
 port_kinds = AnyNode ∷ AnyNumber ∷ ImportanceWord ∷ BodyText ∷ []
 
+-- what the tokens have to be behind the word `cast`: the service type, the bounds, the importance and the body
+abbrev pub cast_kinds : List Kind
+cast_kinds = AnyNumber ∷ AnyNumber ∷ AnyNumber ∷ ImportanceWord ∷ BodyText ∷ []
+
+-- what the tokens have to be behind the word that tells the form
+abbrev pub kinds_behind : SendForm → List Kind
+kinds_behind form.Name = name_kinds
+kinds_behind form.Port = port_kinds
+kinds_behind form.Cast = cast_kinds
+
 -- what the tokens of a line that sends have to be behind `send`: the node, its port, the form, and what follows that
 -- form
 abbrev pub send_kinds : Left → List Kind
-send_kinds node = OldNode ∷ AnyNumber ∷ FormWord ∷ (if is_by_name node then name_kinds else port_kinds)
+send_kinds node = OldNode ∷ AnyNumber ∷ FormWord ∷ kinds_behind (sent_form node)
 
--- whom a message is for, with two numbers
-abbrev pub destination_in : Bool → Left → Destination
-destination_in true first = destination.Name (first_number first) (first_number (behind first))
-destination_in false first = destination.Port (port_at (first_number first) (first_number (behind first)))
+-- whom a message is for, by the numbers behind the word that tells the form
+abbrev pub destination_in : SendForm → Left → Destination
+destination_in form.Name first = destination.Name (first_number first) (first_number (behind first))
+destination_in form.Port first = destination.Port (port_at (first_number first) (first_number (behind first)))
+destination_in form.Cast first = destination.Cast (first_number first) (first_number (behind first)) (first_number (behind (behind first)))
 
--- a line that sends from a port of a node, by name or not, with the tokens behind the word that tells the form
-abbrev pub sent : ℕ → ℕ → Bool → Left → Line
-sent node port named to =
-    let importance = behind (behind to) in
-    line.Send node port (destination_in named to) (importance_of (first_token importance)) (body_of (first_token (behind importance)))
+-- what is left behind these numbers
+abbrev pub behind_destination : SendForm → Left → Left
+behind_destination form.Name first = behind (behind first)
+behind_destination form.Port first = behind (behind first)
+behind_destination form.Cast first = behind (behind (behind first))
 
--- `send n p port m q importance body`, `send n p name type instance importance body`: sends a message from port p of
--- node n
+-- a line that sends from a port of a node, with the tokens behind the word that tells the form
+abbrev pub sent : ℕ → ℕ → SendForm → Left → Line
+sent node port form to =
+    let importance = behind_destination form to in
+    line.Send node port (destination_in form to) (importance_of (first_token importance)) (body_of (first_token (behind importance)))
+
+-- `send n p port m q importance body`, `send n p name type instance importance body`, `send n p cast type lower upper importance body`:
+-- sends a message from port p of node n
 abbrev pub send_row : Row
-send_row = record { word = codes "send"; kinds = send_kinds; asks = λ node. sent (first_number node) (first_number (behind node)) (is_by_name node) (behind (behind (behind node))) }
+send_row = record { word = codes "send"; kinds = send_kinds; asks = λ node. sent (first_number node) (first_number (behind node)) (sent_form node) (behind (behind (behind node))) }
 
 -- the same line again and again
 abbrev pub again : ℕ → Line → Line

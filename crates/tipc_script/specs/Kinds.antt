@@ -10,6 +10,8 @@ use Rattle.tipc_types.specs.declared.services.Scope.{Scope}
 use Rattle.tipc_types.specs.declared.services.Scope.TheVariants as scope
 use Rattle.tipc_script.specs.declared.lines.Filter.{Filter}
 use Rattle.tipc_script.specs.declared.lines.Filter.TheVariants as filter
+use Rattle.tipc_script.specs.declared.lines.SendForm.{SendForm}
+use Rattle.tipc_script.specs.declared.lines.SendForm.TheVariants as form
 
 -- what a token may have to be
 pub data Kind : Type 0 where
@@ -102,13 +104,19 @@ is_filter token = is_some (filter_in token)
 abbrev pub filter_of : List ℕ → Filter
 filter_of token = unwrap_or (filter_in token) filter.Ports
 
--- how a message finds its destination: by a service's name, or by a port
-abbrev pub is_name : List ℕ → Bool
-is_name token = bytes_eq token (codes "name")
+-- the form of a destination that a token is
+unfoldable pub form_in : List ℕ → Option SendForm
+form_in token =
+    if bytes_eq token (codes "name") then Some form.Name
+    else (if bytes_eq token (codes "port") then Some form.Port else (if bytes_eq token (codes "cast") then Some form.Cast else None))
 
--- whether a token is the word that tells how the message finds its destination: `name` or `port`
+-- whether a token is the word that tells the form of a destination
 abbrev pub is_form : List ℕ → Bool
-is_form token = is_name token || bytes_eq token (codes "port")
+is_form token = is_some (form_in token)
+
+-- the form of a destination that a token stands for
+abbrev pub form_of : List ℕ → SendForm
+form_of token = unwrap_or (form_in token) form.Port
 
 -- whether a token is of a kind
 abbrev pub takes : Kind → List ℕ → Bool

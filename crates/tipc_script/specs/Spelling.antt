@@ -12,6 +12,8 @@ use Rattle.tipc_script.specs.declared.lines.Destination.{Destination}
 use Rattle.tipc_script.specs.declared.lines.Destination.TheVariants as destination
 use Rattle.tipc_script.specs.declared.lines.Filter.{Filter}
 use Rattle.tipc_script.specs.declared.lines.Filter.TheVariants as filter
+use Rattle.tipc_script.specs.declared.lines.SendForm.{SendForm}
+use Rattle.tipc_script.specs.declared.lines.SendForm.TheVariants as form
 use Rattle.tipc_script.specs.declared.lines.Line.{Line}
 use Rattle.tipc_script.specs.declared.lines.Line.TheVariants.{Nothing, Node, Mend, Cut, Tick, Restart, Link, Mark, Socket, Close, Publish, Withdraw, Subscribe, Event, Cancel, Send, Repeat, Arrive, Receive, Drain, Pump, Burst, Settle, Air, Show, Links, Table, Flow}
 use Rattle.tipc_script.specs.Kinds.{is_remark, is_visible, pattern}
@@ -38,6 +40,12 @@ abbrev pub filter_word : Filter → List ℕ
 filter_word filter.Ports = codes "ports"
 filter_word filter.Service = codes "service"
 
+-- the word for a form of destinations
+abbrev pub form_word : SendForm → List ℕ
+form_word form.Name = codes "name"
+form_word form.Port = codes "port"
+form_word form.Cast = codes "cast"
+
 -- a port of a node
 abbrev pub port_at : ℕ → ℕ → PortId
 port_at node port = record { node = record { word = node_word node }; port = port }
@@ -55,6 +63,7 @@ body_word (byte ∷ bytes) = if is_visible byte then 61 ∷ byte ∷ bytes else 
 abbrev pub destination_words : Destination → List (List ℕ)
 destination_words (destination.Port to) = codes "port" ∷ decimal (node_number to) ∷ decimal to.port ∷ []
 destination_words (destination.Name kind instance) = codes "name" ∷ decimal kind ∷ decimal instance ∷ []
+destination_words (destination.Cast kind lower upper) = codes "cast" ∷ decimal kind ∷ decimal lower ∷ decimal upper ∷ []
 
 -- the words of a line that sends
 abbrev pub send_words : ℕ → ℕ → Destination → Importance → List ℕ → List (List ℕ)
@@ -119,10 +128,11 @@ IsPattern body = (length body ≤ 70000) × (body ≡ pattern (length body))
 abbrev pub IsBody : List ℕ → Type 0
 IsBody body = IsText body ⊎ IsPattern body
 
--- whom a line may send a message to: a port of a node, or a service
+-- whom a line may send a message to: a port of a node, a service, or all of a range, whose bounds may be in the wrong order
 abbrev pub IsDestination : Destination → Type 0
 IsDestination (destination.Port to) = IsNodeWord to.node.word × (to.port < 2 ^ 32)
 IsDestination (destination.Name kind instance) = (kind < 2 ^ 32) × (instance < 2 ^ 32)
+IsDestination (destination.Cast kind lower upper) = (kind < 2 ^ 32) × (lower < 2 ^ 32) × (upper < 2 ^ 32)
 
 -- a message as a line may ask for it
 pub record IsMessage (node port : ℕ) (to : Destination) (body : List ℕ) : Type 0 where

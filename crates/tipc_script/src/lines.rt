@@ -18,6 +18,26 @@ pub enum Destination {
         /// The instance.
         instance: u32,
     },
+    /// All who offer an instance of a range of a service.
+    Cast {
+        /// The service type.
+        kind: u32,
+        /// The lowest instance, which may be above the highest: then there is no such range.
+        lower: u32,
+        /// The highest instance.
+        upper: u32,
+    },
+}
+
+/// How a line that sends tells whom its message is for.
+#[derive(Clone, Copy, Debug, PartialEq, Eq)]
+pub(crate) enum SendForm {
+    /// By the name of a service.
+    Name,
+    /// By a port of a node.
+    Port,
+    /// By a range of a service, to all who offer an instance of it.
+    Cast,
 }
 
 /// Of which changes a subscriber is told. (Programmer's guide.)
@@ -142,7 +162,7 @@ pub enum Line {
         /// The subscription's number.
         number: u32,
     },
-    /// A message to a port or by name.
+    /// A message to a port, by name, or to all of a range.
     Send {
         /// The sending node.
         node: u8,
@@ -155,7 +175,7 @@ pub enum Line {
         /// The user's bytes.
         body: Body,
     },
-    /// A message to a port or by name, again and again until one isn't sent.
+    /// The same, again and again until one isn't sent.
     Repeat {
         /// How many times at most, from 1 to 1,000,000.
         times: u32,

@@ -4,12 +4,12 @@ ghost use Rattle.std.specs.Prelude.{◌≡◌, ◌≢◌, ◌+◌, ◌-◌, ◌*
 ghost use Rattle.std.specs.Option.{option_copied};
 ghost use Rattle.std.specs.Str.{bytes_eq};
 ghost use Rattle.tipc_script.specs.Splitting.{whole, first_token, behind, tokens_of, pieces, is_space};
-ghost use Rattle.tipc_script.specs.Kinds.{body_of, filter_in, filter_of, importance_in, importance_of, is_body, is_filter, is_form, is_importance, is_name, is_number, is_scope, number_of, scope_in, scope_of};
+ghost use Rattle.tipc_script.specs.Kinds.{body_of, filter_in, filter_of, form_in, form_of, importance_in, importance_of, is_body, is_filter, is_form, is_importance, is_number, is_scope, number_of, scope_in, scope_of};
 ghost use Rattle.tipc_script.specs.Faults.{Tells, TellsAlways, first_fault, missing_fault, end_fault};
 
 use crate::body::body_in;
 use crate::faults::{LineFault, LineWhy};
-use crate::lines::{Filter, NodeToken};
+use crate::lines::{Filter, NodeToken, SendForm};
 use crate::numbers::number_in;
 use std::alloc::Global;
 use std::marker::Model;
@@ -142,24 +142,21 @@ impl<'a> Tokens<'a> {
         Ok(())
     }
 
-    /// The next token as the form of a destination: whether it is a name, else it is a port.
+    /// The next token as the form of a destination.
     #[tactic(auto, unfolding(crate::specs::Faults::first_fault, crate::specs::Faults::missing_fault))]
-    pub fn is_by_name(&mut self) -> Result<bool, LineFault>
-        ensures ok { IfOk result (λ named. (self.new ≡ behind self.old) × (named ≡ is_name (first_token self.old))) }
+    pub fn form(&mut self) -> Result<SendForm, LineFault>
+        ensures ok { IfOk result (λ form. (self.new ≡ behind self.old) × (form ≡ form_of (first_token self.old))) }
         ensures fault { TellsAlways result (first_fault is_form LineWhy.Word self.old) }
     {
         let place = self.place();
         let token = self.token()?;
-        if is_word(token, b"name") {
-            return Ok(true);
-        }
-        if is_word(token, b"port") {
-            return Ok(false);
-        }
-        Err(LineFault::BadLine {
-            place,
-            why: LineWhy::Word,
-        })
+        let Some(form) = form_in(token) else {
+            return Err(LineFault::BadLine {
+                place,
+                why: LineWhy::Word,
+            });
+        };
+        Ok(form)
     }
 
     /// The next token as a scope.
@@ -253,6 +250,23 @@ pub fn is_word(token: &[u8], word: &[u8]) -> bool
     ensures { result ≡ bytes_eq token.now word.now }
 {
     token == word
+}
+
+/// The form of a destination that a token is.
+#[tactic(auto, unfolding(crate::specs::Kinds::form_in))]
+fn form_in(token: &[u8]) -> Option<SendForm>
+    ensures { result ≡ form_in token.now }
+{
+    if is_word(token, b"name") {
+        return Some(SendForm::Name);
+    }
+    if is_word(token, b"port") {
+        return Some(SendForm::Port);
+    }
+    if is_word(token, b"cast") {
+        return Some(SendForm::Cast);
+    }
+    None
 }
 
 /// The scope that a token is.

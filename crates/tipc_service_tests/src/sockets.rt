@@ -134,14 +134,20 @@ fn waits_at(rt: &impl Abort, fate: &Fate, ports: &[u32]) {
     assert!(rt; queued.as_slice() == ports);
 }
 
-/// A multicast that arrived waits at these ports.
+/// A multicast that arrived waits at these ports, as was told before; and so it does at a copy, where it has its fate at once.
 fn spreads(
     rt: &impl Abort,
     alloc: Global,
     sockets: &mut Sockets,
     ports: &[u32],
 ) -> Result<(), Fail> {
-    let fate = fate_of(alloc, sockets, multicast(alloc)?)?;
+    let m = multicast(alloc)?;
+    let mut copy = sockets.copy()?;
+    let told = sockets.spreading(alloc, &m, true)?;
+    assert!(rt; told.ports() == ports);
+    let fate = sockets.spread(told);
+    waits_at(rt, &fate, ports);
+    let fate = fate_of(alloc, &mut copy, m)?;
     waits_at(rt, &fate, ports);
     Ok(())
 }

@@ -187,6 +187,7 @@ inside e = cc
 pub sending_can : (port : ℕ) (to : Destination) (importance : Importance) (body : List ℕ) → CanPerform (sending port to importance body)
 sending_can port (destination.Port to) importance body = tt
 sending_can port (destination.Name kind instance) importance body = tt
+sending_can port (destination.Cast kind lower upper) importance body = tt
 
 -- a publication is an event only where its range has instances
 publish_can : (w : WorldState) (node port kind lower upper key : ℕ) (scope : Scope) (event : WorldEvent) → is_there w node ≡ true → service_event (Publish node port kind lower upper scope key) ≡ Some event → CanHappen w event

@@ -53,6 +53,7 @@ scene world notes = record { world = world; notes = notes }
 abbrev pub sending : ℕ → Destination → Importance → List ℕ → EventNote
 sending port (destination.Port to) importance body = call.SendPort port to importance body
 sending port (destination.Name kind instance) importance body = call.SendName port kind instance importance body
+sending port (destination.Cast kind lower upper) importance body = call.Multicast port kind lower upper importance body
 
 -- the number of a filter
 abbrev pub filter_number : Filter → ℕ

@@ -95,6 +95,14 @@ fn send(node: u8, port: u32, to: Destination, importance: Importance, body: Body
             importance,
             body,
         },
+        Destination::Cast { kind, lower, upper } => EventNote::Multicast {
+            port,
+            kind,
+            lower,
+            upper,
+            importance,
+            body,
+        },
     };
     call(node, sending)
 }

@@ -3,6 +3,7 @@ pub mod Closing
 pub mod Counting
 pub mod Entries
 pub mod FatesTold
+pub mod Hearers
 pub mod Keeping
 pub mod Learning
 pub mod LearntNames

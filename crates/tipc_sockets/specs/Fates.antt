@@ -1,5 +1,5 @@
 -- The fate of a message that arrived, or that the own node sent to itself: the first row that fits.
-use Rattle.std.specs.Prelude.{ℕ, ◌+◌, ◌==◌, ◌&&◌, ◌||◌, Bool, true, false, not, nat_le, nat_lt, if◌then◌else◌, List, [], ◌∷◌, Option, None, Some, filter, length}
+use Rattle.std.specs.Prelude.{ℕ, ◌+◌, ◌==◌, ◌&&◌, ◌||◌, Bool, true, false, not, nat_le, nat_lt, if◌then◌else◌, List, [], ◌∷◌, Option, None, Some, filter, length, replicate}
 use Rattle.std.specs.List.{list_any}
 use Rattle.tipc_types.specs.Span.{Span}
 use Rattle.tipc_types.specs.declared.message_forms.Form.{Form}
@@ -34,6 +34,21 @@ may_wait (Some waiting) = nat_lt (length waiting) inbox_size
 abbrev pub hearers : SocketTable → Bool → Span → List ℕ
 hearers s arrived range =
     filter (λ port. list_any (is_at port) (aimed_at s.live arrived range) && may_wait (queue_at s port)) s.ports.present
+
+-- What a multicast will make of the sockets: the ports to which it is queued, rising, and a copy of it for each.
+pub record Spread : Type 0 where
+  pub ports : List ℕ
+  pub copies : List Message
+
+-- the ports to which a message is queued as a multicast, by the range that it names
+abbrev pub hearers_of : SocketTable → Bool → Message → List ℕ
+hearers_of s arrived (Payload importance form from to kind lower upper code droppable body) =
+    hearers s arrived (record { kind = kind; lower = lower; upper = upper })
+hearers_of s arrived (Items withdrawal items) = []
+
+-- what it will make of the sockets
+abbrev pub spread_of : SocketTable → Bool → Message → Spread
+spread_of s arrived m = record { ports = hearers_of s arrived m; copies = replicate (length (hearers_of s arrived m)) m }
 
 -- whether messages of this form are sent by name, to the port that was picked
 abbrev pub is_by_name : Form → Bool

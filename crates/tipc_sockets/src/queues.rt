@@ -3,6 +3,7 @@
 ghost use Rattle.std.specs.Prelude.{◌≡◌, true, nat_eq, All, ◌<◌, ◌≤◌, ◌+◌, ◌++◌, ◌∷◌, [], length, drop, slice_get, nat_le, nat_lt, replicate, IfOk, OnErr, OnOk};
 ghost use Rattle.std.specs.List.{AllPairs};
 ghost use Rattle.std.specs.Map.{lookup};
+ghost use Rattle.tipc_types.specs.declared.message_forms.Message.{Message};
 ghost use Rattle.tipc_sockets.specs.Fates.{may_wait};
 ghost use Rattle.tipc_sockets.specs.SocketTables.{queued, queued_at_each};
 
@@ -119,7 +120,11 @@ pub(crate) fn put(queues: &mut Queues, port: u32, message: Message)
 }
 
 /// So many copies of a message.
-fn copies(alloc: Global, message: &Message, count: usize) -> Result<Vec<Message>, NoMemory>
+pub(crate) fn copies(
+    alloc: Global,
+    message: &Message,
+    count: usize,
+) -> Result<Vec<Message>, NoMemory>
     ensures { IfOk result (λ made. made.items ≡ replicate count message.now) }
 {
     let mut made = Vec::with_capacity(alloc, count)?;
@@ -129,24 +134,19 @@ fn copies(alloc: Global, message: &Message, count: usize) -> Result<Vec<Message>
     Ok(made)
 }
 
-/// Puts a copy of a message last at each of these ports, which rise and have room.
-pub(crate) fn put_each(
-    alloc: Global,
-    queues: &mut Queues,
-    ports: &[u32],
-    message: &Message,
-) -> Result<(), NoMemory>
+/// Puts a copy of a message last at each of these ports, which rise and have room. It takes no memory.
+pub(crate) fn put_each(queues: &mut Queues, ports: &[u32], copies: Vec<Message>)
     requires rising { AllPairs (λ port later. port < later) ports.now }
     requires room { All (λ port. may_wait (lookup (nat_eq port) queues.old.entries) ≡ true) ports.now }
-    ensures ok { OnOk result (queues.new.entries ≡ queued_at_each message.now queues.old.entries ports.now) }
-    ensures err { OnErr result (queues.new ≡ queues.old) }
+    requires count { length copies.items ≡ length ports.now }
+    ensures { (m : Message) → copies.items ≡ replicate (length ports.now) m →
+        queues.new.entries ≡ queued_at_each m queues.old.entries ports.now }
 {
-    let mut made = copies(alloc, message, ports.len())?;
+    let mut left = copies;
     for port in ports {
-        match made.pop() {
+        match left.pop() {
             Some(copy) => put(queues, *port, copy),
             None => unreachable!(),
         }
     }
-    Ok(())
 }

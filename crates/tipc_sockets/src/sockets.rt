@@ -1,6 +1,6 @@
 //! The sockets of one node with its names and subscriptions, and the calls that they take.
 
-ghost use Rattle.std.specs.Prelude.{◌≡◌, ◌≤◌, ◌<◌, ◌+◌, ◌⊎◌, ◌↔◌, ◌&&◌, ℕ, List, [], ◌∷◌, false, true, Err, Ok, None, Some, count_by, filter, find, fold, length, map, slice_get, unwrap_or, IfErr, IfOk, IfSome, IfNone, IsErr, OnErr, OnOk};
+ghost use Rattle.std.specs.Prelude.{◌≡◌, ◌≤◌, ◌<◌, ◌+◌, ◌⊎◌, ◌↔◌, ◌&&◌, ℕ, Bool, List, [], ◌∷◌, false, true, Err, Ok, None, Some, count_by, filter, find, fold, length, map, slice_get, unwrap_or, IfErr, IfOk, IfSome, IfNone, IsErr, OnErr, OnOk};
 ghost use Rattle.std.specs.List.{list_any};
 ghost use Rattle.tipc_types.specs.Address.{IsNodeWord};
 ghost use Rattle.tipc_types.specs.declared.message_forms.Message.{Message};
@@ -8,7 +8,7 @@ ghost use Rattle.tipc_types.specs.declared.services.Publication.{Publication};
 ghost use Rattle.tipc_types.specs.Matching.{closest, covers, overlaps};
 ghost use Rattle.tipc_types.specs.Tables.{is_named, is_of, put, without, without_node, IsTable};
 ghost use Rattle.tipc_ports.specs.Numbers.{port_number};
-ghost use Rattle.tipc_sockets.specs.Fates.{after_fate, fate, has_places, may_wait, hearers, refusal, surely_waits, with_waiting};
+ghost use Rattle.tipc_sockets.specs.Fates.{after_fate, fate, has_places, hearers_of, may_wait, refusal, spread_of, surely_waits, with_waiting};
 ghost use Rattle.tipc_sockets.specs.Publishing.{closed, is_at, own_publication, published_at, publish_refusal, published, purged, withdrawn};
 ghost use Rattle.tipc_topology.specs.Changing.{cancelled, due, ended_at, events_left, is_filter, of_number, passed, subscribed, with_event_taken as taken_from_one, with_kept};
 ghost use Rattle.tipc_topology.specs.Watchers.{ticked};
@@ -20,7 +20,8 @@ use crate::publishing::{
     is_offered, lose, lose_those_at, note_added, remove_at, remove_named, remove_node, those_of,
     withdraw_those_at,
 };
-use crate::queues::{Queue, Queues, may_wait, put, put_each};
+use crate::queues::{Queue, Queues, copies, may_wait, put, put_each};
+use crate::spreading::Spreading;
 use std::alloc::Global;
 use std::marker::Model;
 use tipc_journal::PortList;
@@ -364,25 +365,57 @@ impl Sockets {
         Ok(Fate::Queued(ports))
     }
 
-    /// Queues a copy of a multicast to each port that hears it.
-    fn spread(
-        &mut self,
+    /// What a multicast will make of the sockets: each own port, rising, that has room and a publication that overlaps the
+    /// range which it names, of cluster or zone scope where it arrived, will have a copy. Nothing is changed yet:
+    /// [`Sockets::spread`] does it. (TIPC 2.0 draft; limits: this project's profile.)
+    pub fn spreading(
+        &self,
         alloc: Global,
         m: &Message,
         arrived: bool,
-        kind: u32,
-        lower: u32,
-        upper: u32,
-    ) -> Result<Fate, NoMemory>
-        ensures fate { IfOk result (λ f. f ≡
-            Fate.Queued (hearers self.old arrived (record { kind = kind; lower = lower; upper = upper }))) }
+    ) -> Result<Spreading, NoMemory>
+        ensures { IfOk result (λ s. s ≡ spread_of self.now arrived m.now) }
+    {
+        let Message::Payload {
+            name_kind,
+            lower,
+            upper,
+            ..
+        } = m
+        else {
+            return Ok(Spreading {
+                ports: PortList::new(alloc),
+                copies: Vec::new(alloc),
+            });
+        };
+        let live = self.live.as_slice();
+        let aimed = aimed_at(alloc, live, arrived, *name_kind, *lower, *upper)?;
+        let ports = self.hearers(alloc, aimed.as_slice())?;
+        let copies = copies(alloc, m, ports.as_slice().len())?;
+        Ok(Spreading { ports, copies })
+    }
+
+    /// Queues a multicast at each port that hears it, as [`Sockets::spreading`] told when the sockets were as they are,
+    /// and answers what becomes of it. It takes no memory.
+    pub fn spread(&mut self, spreading: Spreading) -> Fate
+        requires { (arrived : Bool) × (m : Message) × (spreading ≡ spread_of self.old arrived m) }
+        ensures fate { result ≡ Fate.Queued spreading.ports }
+        ensures after { (arrived : Bool) (m : Message) → spreading ≡ spread_of self.old arrived m →
+            self.new ≡ after_fate self.old m (Fate.Queued spreading.ports) }
+    {
+        let Spreading { ports, copies } = spreading;
+        put_each(&mut self.queues, ports.as_slice(), copies);
+        Fate::Queued(ports)
+    }
+
+    /// Queues a multicast at each port that hears it.
+    fn spread_now(&mut self, alloc: Global, m: &Message, arrived: bool) -> Result<Fate, NoMemory>
+        ensures fate { IfOk result (λ f. f ≡ Fate.Queued (hearers_of self.old arrived m.now)) }
         ensures ok { IfOk result (λ f. self.new ≡ after_fate self.old m.now f) }
         ensures err { OnErr result (self.new ≡ self.old) }
     {
-        let aimed = aimed_at(alloc, self.live.as_slice(), arrived, kind, lower, upper)?;
-        let ports = self.hearers(alloc, aimed.as_slice())?;
-        put_each(alloc, &mut self.queues, ports.as_slice(), m)?;
-        Ok(Fate::Queued(ports))
+        let spreading = self.spreading(alloc, m, arrived)?;
+        Ok(self.spread(spreading))
     }
 
     /// What becomes of a message that arrived (`arrived`, whatever origin it names), or that the own node sent to
@@ -425,16 +458,15 @@ impl Sockets {
             to,
             name_kind,
             lower,
-            upper,
             ..
         } = &m
         else {
             return Ok(Fate::Dropped);
         };
-        let (form, port, kind, lower, upper) = (*form, to.port, *name_kind, *lower, *upper);
+        let (form, port, kind, lower) = (*form, to.port, *name_kind, *lower);
         match form {
             Form::Connected => Ok(Fate::Dropped),
-            Form::Multicast => self.spread(alloc, &m, arrived, kind, lower, upper),
+            Form::Multicast => self.spread_now(alloc, &m, arrived),
             Form::Named | Form::Direct => match self.refusal(arrived, form, port, kind, lower) {
                 Some(why) => Ok(unqueued(self.own, waiting, why, m)),
                 None => self.queue_to(alloc, port, m),

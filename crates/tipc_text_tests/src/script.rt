@@ -9,7 +9,7 @@ use tipc_script::{Command, Destination, Filter, Line, LineFault, LineWhy, NodeTo
 use tipc_types::{Addr, Body, Importance, PortId, Scope};
 
 /// A line that is refused for each reason, with its place. (More stand in rows/bad_lines.table.)
-const BAD_LINES: [(&[u8], u32, LineWhy); 7] = [
+const BAD_LINES: [(&[u8], u32, LineWhy); 11] = [
     (b"nod 1", 1, LineWhy::Command),
     (b"node 33", 6, LineWhy::Number),
     (b"send 1 1 port 2 1 LOW =a", 19, LineWhy::Word),
@@ -17,6 +17,10 @@ const BAD_LINES: [(&[u8], u32, LineWhy); 7] = [
     (b"mend 1", 7, LineWhy::End),
     (b"send 1 1 name 100 5 low", 24, LineWhy::End),
     (b"publish 1 1 100 0 9 world 1", 21, LineWhy::Word),
+    (b"send 1 1 casts 200 6 7 low =m", 10, LineWhy::Word),
+    (b"send 1 1 cast 200 6 4294967296 low =m", 21, LineWhy::Number),
+    (b"send 1 1 cast 200 6 low =m", 21, LineWhy::Number),
+    (b"repeat 2 send 1 1 cast 200 6 7 low", 35, LineWhy::End),
 ];
 
 /// What is read of a short line.
@@ -189,12 +193,18 @@ fn sends_that_are_repeated_are_read(rt: HostRuntime) -> Result<(), Fail> {
         kind: 100,
         instance: 5,
     };
+    let cast = Destination::Cast {
+        kind: 100,
+        lower: 6,
+        upper: 5,
+    };
     let rows = [
         (
             b"repeat 2 send 1 7 port 2 9 high =a".as_slice(),
             port_of(2, 9),
         ),
         (b"repeat 2 send 1 7 name 100 5 high =a", name),
+        (b"repeat 2 send 1 7 cast 100 6 5 high =a", cast),
     ];
     for (text, to) in rows {
         let repeat = Line::Repeat {
@@ -216,6 +226,11 @@ fn sends_are_read_with_their_bodies(rt: HostRuntime) -> Result<(), Fail> {
         kind: 0,
         instance: u32::MAX,
     };
+    let cast = Destination::Cast {
+        kind: 0,
+        lower: 7,
+        upper: u32::MAX,
+    };
     let rows = [
         (
             b"send 1 4294967295 port 2 0 low =hello".as_slice(),
@@ -223,6 +238,7 @@ fn sends_are_read_with_their_bodies(rt: HostRuntime) -> Result<(), Fail> {
         ),
         (b"send 1 4294967295 port 1 0 low =hello", port_of(1, 0)),
         (b"send 1 4294967295 name 0 4294967295 low =hello", name),
+        (b"send 1 4294967295 cast 0 7 4294967295 low =hello", cast),
     ];
     for (text, to) in rows {
         let send = Line::Send {

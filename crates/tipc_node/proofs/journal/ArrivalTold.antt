@@ -1,15 +1,22 @@
 -- The journal tells of the node after an arrival.
-use Rattle.std.proofs.Common.{◌≡◌, ◌≤◌, ◌<◌, ◌==◌, ◌-◌, ℕ, false, List, [], ◌∷◌, ◌++◌, Option, Some, None, fold, is_some, inl, inr, refl, sym, ap, ◌∙◌, subst, arith}
+use Rattle.std.proofs.Common.{◌≡◌, ◌≤◌, ◌<◌, ◌==◌, ◌-◌, ℕ, true, false, List, [], ◌∷◌, ◌++◌, Option, Some, None, fold, is_some, inl, inr, refl, sym, ap, ◌∙◌, subst, arith}
 use Rattle.std.specs.Prelude.{◌⊎◌, IfSome, if◌then◌else◌, map, option_and_then, option_map, slice_index_or, slice_set}
 use Rattle.std.proofs.lemmas.Bool.{cases_eq, cases_lt}
 use Rattle.std.proofs.lemmas.Bool.Decides.{nat_tests}
 use Rattle.std.proofs.lemmas.List.{get_or-set_other}
-use Rattle.tipc_types.specs.declared.message_forms.Flow.TheVariants.{Zero}
+use Rattle.tipc_types.specs.declared.message_forms.Flow.TheVariants.{Broadcast, Zero}
 use Rattle.tipc_types.specs.Address.{node_word}
 use Rattle.tipc_types.specs.declared.identity.Addr.{Addr}
 use Rattle.tipc_types.specs.declared.link_words.BroadcastState.{BroadcastState}
 use Rattle.tipc_types.specs.declared.node_calls.Answer.TheVariants as answer
-use Rattle.tipc_broadcast.specs.Casting.{shown}
+use Rattle.tipc_types.specs.declared.packet_lists.Taken.{Taken}
+use Rattle.tipc_broadcast.specs.declared.contacts.Contact.{Contact}
+use Rattle.tipc_broadcast.specs.Casting.{Casting, hearing_outcome, shown}
+use Rattle.tipc_broadcast.specs.Contacts.{carried, contact_with, has_joined}
+use Rattle.tipc_fragments.specs.Joining.{Joining}
+use Rattle.tipc_recv_window.specs.declared.outcomes.LinkOutcome.{LinkOutcome}
+use Rattle.tipc_reassembly.specs.declared.opening.Opened.{Opened}
+use Rattle.tipc_pair.specs.declared.changes.PairOutcome.{PairOutcome}
 use Rattle.tipc_types.specs.declared.node_calls.Arrival.{Arrival}
 use Rattle.tipc_types.specs.declared.node_calls.Arrival.TheVariants as arrival
 use Rattle.tipc_types.specs.declared.node_calls.By.{By}
@@ -26,16 +33,18 @@ use Rattle.tipc_pair.specs.declared.transitions.Transition.TheVariants.{ContactD
 use Rattle.tipc_pair.specs.Facing.{contact_between}
 use Rattle.tipc_pair.specs.PairTurns.{Outset}
 use Rattle.tipc_pair.specs.PairTurns.Opening.{hears}
-use Rattle.tipc_pair.specs.Messages.{opened_in}
+use Rattle.tipc_pair.specs.Messages.{OpensTo, opened_in}
+use Rattle.tipc_pair.specs.Messages.OpensTo.{deferred, ignored, took}
 use Rattle.tipc_sockets.specs.SocketTables.{AreSockets}
 use Rattle.tipc_node.specs.declared.neighbours.Neighbour.{Neighbour}
+use Rattle.tipc_node.specs.CastArrivals.{HearsCast, cast_answered, cast_work, members_in}
 use Rattle.tipc_node.specs.Arrivals.{Arrives, Hears, answered_work, heard_casting, heard_work}
 use Rattle.tipc_node.specs.Casting.{stated_in}
-use Rattle.tipc_node.specs.Neighbours.{HearsAt, heard_neighbour}
-use Rattle.tipc_node.specs.Nodes.{NodeState, arrival_deliveries, change_entries, delivery_of, neighbour_of, shown_contact, step_of, stop_of}
+use Rattle.tipc_node.specs.Neighbours.{HearsAt, heard_neighbour, with_casts}
+use Rattle.tipc_node.specs.Nodes.{NodeState, arrival_deliveries, change_entries, delivery_of, is_met, neighbour_of, shown_contact, step_of, stop_of}
 use Rattle.tipc_node.specs.Telling.{IsTold}
 use Rattle.tipc_pair.specs.LinkReadings.{AreAbreast}
-use Rattle.tipc_node.specs.Turns.{NodeTurn, addr_of}
+use Rattle.tipc_node.specs.Turns.{HaveJoined, NodeTurn, addr_of}
 use Rattle.tipc_node.specs.Works.{Work, addr_of_word, begun}
 use Rattle.tipc_node.proofs.journal.Calling.{done_answered}
 use Rattle.tipc_node.proofs.journal.Concluding.{IsCall, call_told, others_kept}
@@ -48,10 +57,11 @@ use Rattle.tipc_pair.proofs.turns.PairEvents.{HappenedSo, happened_so}
 use Rattle.tipc_pair.proofs.turns.PairTells.{Tells}
 use Rattle.tipc_node.proofs.journal.PeersTold.{puts_each_linked, puts_each_worked}
 use Rattle.tipc_node.proofs.Places.{set_either, set_there}
-use Rattle.tipc_node.proofs.journal.Putting.{IsInContact, all_delivered, all_given, not_nobody, still_in_contact}
+use Rattle.tipc_node.proofs.journal.Putting.{IsInContact, all_delivered, all_given, contact_set, not_nobody, still_in_contact}
 use Rattle.tipc_node.proofs.work.Arriving.{by_arrival}
+use Rattle.tipc_node.proofs.work.Casting.{joined_there}
 use Rattle.tipc_node.proofs.work.Discovery.{discovered_same}
-use Rattle.tipc_node.proofs.work.Senders.{sender_other}
+use Rattle.tipc_node.proofs.work.Senders.{isnt_own, sender_other}
 use Rattle.tipc_node.proofs.journal.SendsTold.{begun_linked}
 use Rattle.tipc_pair.proofs.turns.TurnMeans.{contact_by_story, on_bearers, told_by_story}
 use Rattle.tipc_node.proofs.journal.Telling.{contact_goes}
@@ -192,7 +202,7 @@ heard_told n n' by bearer number bytes frames answered inside h passes heard t s
     let other = sender_other n bearer bytes heard.peer heard.first heard.second heard.packet heard.due passes in
     let so = heard_so n bearer heard.peer heard.first heard.second number x heard.packet (shown n.casting (node_word heard.peer)) heard.out h heard.was heard.hears in
     let first = heard_worked n heard.peer x heard.out h heard.was other so.tells in
-    let given = all_given heard.peer (shown_contact x.pair) (opened_in heard.out.given) in
+    let given = all_given Zero heard.peer (shown_contact x.pair) (opened_in heard.out.given) in
     let ds = arrival_deliveries Zero heard.peer x.pair heard.out.given in
     let start = heard_work n heard.peer x heard.out in
     let told : IsDone n NothingDue [] [] heard.greeted = (
@@ -206,6 +216,68 @@ heard_told n n' by bearer number bytes frames answered inside h passes heard t s
     call_told n n' bytes by (event.Arrive bearer number) inside (answer.Arrived answered) (answer.Arrived answered) frames w w.sockets h t (ap (λ (k : NodeState). k.journal) heard.after) (ap (λ (k : NodeState). k.sockets) heard.after) sound
     (arrived_call n by bearer number answered w h worked)
 
+-- ---- a broadcast packet
+
+-- what is begun of a peer's broadcast leaves the contacts
+cast_linked : (n : NodeState) (peer : ℕ) (x : Neighbour) (joining : Joining) → IsTold n → neighbour_of n peer ≡ Some x → IsLinked n (cast_work n peer x joining)
+cast_linked n peer x joining h was = record {
+  contacts = λ a. before.contacts a ∙ sym (contact_set n.neighbours peer x y was refl a);
+  two = λ b z there. two b z there (cases_eq b peer);
+  nobody = get_or-set_other n.neighbours peer 0 (Some y) None (not_nobody n.neighbours peer x h.nobody was) ∙ h.nobody;
+}
+  where
+    y : Neighbour
+    y = with_casts x joining
+
+    before : IsLinked n (begun n)
+    before = begun_linked n h
+
+    two : (b : ℕ) (z : Neighbour) → slice_index_or (slice_set n.neighbours peer (Some y)) b None ≡ Some z → (b ≡ peer) ⊎ (b ≡ peer → ⊥) → z.pair.bearer ≤ 1
+    two b z there (inl here) =
+        let same : y ≡ z = set_either n.neighbours peer z y (ap (λ k. slice_index_or (slice_set n.neighbours peer (Some y)) k None) (sym here) ∙ there) in
+        subst (λ (v : Neighbour). v.pair.bearer ≤ 1) same (before.two peer x was)
+    two b z there (inr other) = before.two b z (sym (get_or-set_other n.neighbours peer b (Some y) None other) ∙ there)
+
+-- what opens to something was taken
+opens_took : (begun : Joining) (o : LinkOutcome) (given : PairOutcome) (last : Joining) (g : Opened) (gs : List Opened) → OpensTo begun o given last → opened_in given ≡ g ∷ gs → (taken : List Taken) × (o ≡ LinkOutcome.Took taken)
+opens_took begun _ _ _ g gs (took all) is = (_, refl)
+opens_took begun _ _ _ g gs deferred is = absurd cc
+opens_took begun _ _ _ g gs ignored is = absurd cc
+
+-- what is taken is of a peer that joined
+took_joined : (v : Casting) (boot members : ℕ) (t : Taken) (o : Option Contact) (taken : List Taken) → hearing_outcome v boot members t o ≡ LinkOutcome.Took taken → is_some o ≡ true
+took_joined v boot members t None taken is = absurd cc
+took_joined v boot members t (Some c) taken is = refl
+
+cast_in_contact : (n n' : NodeState) (by : By) (bearer number : ℕ) (bytes : List ℕ) (frames : List Outgoing) (answered : Arrival) → HaveJoined n → (cast : HearsCast n n' by bearer number bytes frames answered)
+    → IsInContact cast.peer (cast_work n cast.peer cast.neighbour cast.joining) (arrival_deliveries Broadcast cast.peer cast.neighbour.pair cast.given)
+cast_in_contact n n' by bearer number bytes frames answered joined cast d ds some =
+    let x = cast.neighbour in
+    let p = cast.packet in
+    let opened = mapped_some (delivery_of Broadcast cast.peer (shown_contact x.pair)) (opened_in cast.given) d ds some in
+    let took = opens_took x.casts cast.outcome cast.given cast.joining opened.0 opened.1 cast.opens opened.2 in
+    let there = took_joined n.casting cast.first (members_in cast.second) (carried p number) (contact_with p.previous n.casting.contacts) took.0 (sym cast.outcome_is ∙ took.1) in
+    let has : has_joined (node_word cast.peer) n.casting.contacts ≡ true = ap (λ word. has_joined word n.casting.contacts) (sym cast.brings.from.previous) ∙ there in
+    ap is_some (peer_place n.neighbours cast.peer x (with_casts x cast.joining) cast.was) ∙ contact_is_some x.pair ∙ sym (ap is_met cast.was) ∙ sym (joined_there n cast.peer joined) ∙ has
+
+cast_told : (n n' : NodeState) (by : By) (bearer number : ℕ) (bytes : List ℕ) (frames : List Outgoing) (answered : Arrival) (inside : List Entry) → IsTold n → HaveJoined n → HearsCast n n' by bearer number bytes frames answered
+    → NodeTurn n n' bytes (step_of by (event.Arrive bearer number) inside (answer.Arrived answered)) frames → AreSockets n'.sockets → IsTold n'
+cast_told n n' by bearer number bytes frames answered inside h joined cast t sound =
+    let peer = cast.peer in
+    let x = cast.neighbour in
+    let start = cast_work n peer x cast.joining in
+    let other = isnt_own n.own (node_word peer) cast.brings.other in
+    let first : IsDone n NothingDue [] [] start = (worked_beside n NothingDue NothingDue [] [] (begun n) start.neighbours (begun_worked n NothingDue h), cast_linked n peer x cast.joining h cast.was) in
+    let given = all_given Broadcast peer (shown_contact x.pair) (opened_in cast.given) in
+    let ds = arrival_deliveries Broadcast peer x.pair cast.given in
+    let done = all_delivered n NothingDue [] [] peer start ds cast.work cast.returned other first given (cast_in_contact n n' by bearer number bytes frames answered joined cast) cast.delivers in
+    let w = cast_answered cast.outcome bearer peer cast.casting cast.work cast.then in
+    let worked = worked_beside n NothingDue NothingDue [] [] cast.work w.neighbours done.0 in
+    call_told n n' bytes by (event.Arrive bearer number) inside (answer.Arrived answered) (answer.Arrived answered) frames w w.sockets h t (ap (λ (k : NodeState). k.journal) cast.after) (ap (λ (k : NodeState). k.sockets) cast.after) sound
+    (arrived_call n by bearer number answered w h worked)
+
+-- ---- any frame
+
 -- an arrival by which nothing is noted, and no socket changes
 quiet_told : (n n' : NodeState) (by : By) (bearer number : ℕ) (bytes : List ℕ) (frames : List Outgoing) (answered given : Arrival) (inside : List Entry) → IsTold n
     → NodeTurn n n' bytes (step_of by (event.Arrive bearer number) inside (answer.Arrived answered)) frames → AreSockets n'.sockets
@@ -214,9 +286,9 @@ quiet_told n n' by bearer number bytes frames answered given inside h t sound jo
     call_told n n' bytes by (event.Arrive bearer number) inside (answer.Arrived answered) (answer.Arrived given) frames (begun n) n.sockets h t journal sockets sound
     (arrived_call n by bearer number given (begun n) h (begun_worked n NothingDue h))
 
-pub arrives_told : (n n' : NodeState) (by : By) (bearer number : ℕ) (bytes : List ℕ) (frames : List Outgoing) (answered : Arrival) → IsTold n → Arrives n n' by bearer number bytes frames answered → (inside : List Entry)
+pub arrives_told : (n n' : NodeState) (by : By) (bearer number : ℕ) (bytes : List ℕ) (frames : List Outgoing) (answered : Arrival) → IsTold n → HaveJoined n → Arrives n n' by bearer number bytes frames answered → (inside : List Entry)
     → NodeTurn n n' bytes (step_of by (event.Arrive bearer number) inside (answer.Arrived answered)) frames → AreSockets n'.sockets → IsTold n'
-arrives_told n n' by bearer number bytes frames answered h arrives inside t sound =
+arrives_told n n' by bearer number bytes frames answered h joined arrives inside t sound =
     by_arrival (IsTold n') n n' by bearer number bytes frames answered arrives
     (λ reason after none is.
     quiet_told n n' by bearer number bytes frames answered (arrival.Ignored reason) inside h t sound (ap (λ (x : NodeState). x.journal) after) (ap (λ (x : NodeState). x.sockets) after))
@@ -225,3 +297,4 @@ arrives_told n n' by bearer number bytes frames answered h arrives inside t soun
     let same = discovered_same n found.peer bearer in
     quiet_told n n' by bearer number bytes frames answered (arrival.Took 0) inside h t sound
     (ap (λ (x : NodeState). x.journal) found.after ∙ ap (λ es. es ++ step_entries (step_of by (event.Arrive bearer number) [] (answer.Arrived (arrival.Took 0)))) same.0) (ap (λ (x : NodeState). x.sockets) found.after ∙ same.1))
+    (λ cast. cast_told n n' by bearer number bytes frames answered inside h joined cast t sound)

@@ -25,7 +25,7 @@ use Rattle.tipc_sockets.specs.SocketTables.{AreSockets, SocketTable, has_port, q
 use Rattle.tipc_sockets.specs.Telling.{is_tick}
 use Rattle.tipc_sockets.proofs.StepsTold.{told_made, told_taken}
 use Rattle.tipc_node.specs.Nodes.{NodeState, step_of}
-use Rattle.tipc_node.specs.Plans.{GoesItsWay, Plan, Dispatch, frames_alone, on_its_way, tables_plan, to_peers}
+use Rattle.tipc_node.specs.Plans.{GoesItsWay, Plan, Dispatch, frames_alone, on_its_way, tables_plan, to_all, to_peers}
 use Rattle.tipc_node.specs.Sockets.{first_answer, kept_answer, next_port, waiting_at}
 use Rattle.tipc_node.specs.Telling.{IsFull, IsTold}
 use Rattle.tipc_node.specs.Works.{TellsPeers, Work, addr_of_word, begun}
@@ -126,6 +126,7 @@ IsWell n by note given last = (w : Work) × (last.inside ≡ w.inside) × IsCall
 abbrev pub EndsWell : Dispatch → NodeState → By → EventNote → Plan → Type 0
 EndsWell (frames_alone given) n by note p = IsInside p.work.inside → IsWell n by note (kept_answer p.answered) p.work
 EndsWell (to_peers told) n by note p = (last : Work) (frames : List Outgoing) → TellsPeers n.own p.work told last frames → AreSockets last.sockets → IsInside last.inside → IsWell n by note (kept_answer p.answered) last
+EndsWell (to_all m given) n by note p = IsInside p.work.inside → IsWell n by note (kept_answer p.answered) p.work
 EndsWell (on_its_way m) n by note p = (last : Work) (frames : List Outgoing) → GoesItsWay n.own p.work m last frames → IsInside last.inside → IsWell n by note (kept_answer p.answered) last
 
 -- What is to be known of a plan whose call is told: the journal tells why it is refused, and what it does where nothing speaks against it.

@@ -5,6 +5,7 @@ use Rattle.std.proofs.lemmas.Bool.{cases_eq}
 use Rattle.std.proofs.lemmas.List.{append-nil, get_or-set_other}
 use Rattle.tipc_types.specs.Address.{node_word}
 use Rattle.tipc_types.specs.declared.identity.Addr.{Addr}
+use Rattle.tipc_types.specs.declared.message_forms.Flow.{Flow}
 use Rattle.tipc_types.specs.declared.message_forms.Flow.TheVariants.{Zero}
 use Rattle.tipc_types.specs.declared.message_forms.Message.{Message}
 use Rattle.tipc_types.specs.declared.message_forms.Message.TheVariants.{Payload, Items}
@@ -28,7 +29,7 @@ use Rattle.tipc_sockets.specs.Telling.{fate_entry, is_for_one_there, is_payload,
 use Rattle.tipc_sockets.proofs.Entries.{told_entry}
 use Rattle.tipc_node.specs.declared.frames.Delivery.{Delivery}
 use Rattle.tipc_node.specs.declared.neighbours.Neighbour.{Neighbour}
-use Rattle.tipc_node.specs.Messages.{bytes_of, destination_of, message_in}
+use Rattle.tipc_node.specs.Messages.{bytes_of, destination_of, message_in_flow}
 use Rattle.tipc_node.specs.Nodes.{NodeState, accepted_entry, deliveries_of, delivered_by, delivery_of, shown_contact}
 use Rattle.tipc_node.specs.Works.{DeliversAll, DeliversTo, Follows, GoesAway, GoesBack, Puts, PutsEach, GivesFate, Work, addr_of_word, fate_of, fated, noted, waiting_to}
 use Rattle.tipc_node.specs.Works.DeliversAll.{none_left, one_more}
@@ -42,7 +43,7 @@ use Rattle.tipc_node.proofs.work.Stable.{IsStable, delivers_stable, puts_stable}
 -- ---- what is put leaves each contact
 use Rattle.tipc_pair.proofs.Facings.{facing_two}
 
-contact_set : (xs : List (Option Neighbour)) (peer : ℕ) (x y : Neighbour) → slice_index_or xs peer None ≡ Some x → contact_between y.pair ≡ contact_between x.pair → (a : Addr)
+pub contact_set : (xs : List (Option Neighbour)) (peer : ℕ) (x y : Neighbour) → slice_index_or xs peer None ≡ Some x → contact_between y.pair ≡ contact_between x.pair → (a : Addr)
     → contact_at (slice_set xs peer (Some y)) a ≡ contact_at xs a
 contact_set xs peer x y was same a = by (cases_eq (a.word - node_word 0) peer)
   where
@@ -115,21 +116,26 @@ pub put_node : (n : NodeState) (w : Work) (m : Message) (w' : Work) (frames : Li
 put_node n w m w' frames h p =
     ap addr_of_word (above_word (destination_of m).word (not_nobody w.neighbours ((destination_of m).word - node_word 0) p.neighbour h.nobody p.was))
 
-unqueued : (port : ℕ) (x : Due) (peer : Addr) (numbers : ℕ × ℕ) (m : Message) → queued_by port x (entry.Accepted peer numbers Zero m) ≡ []
-unqueued port NothingDue peer numbers m = refl
-unqueued port (FateDue back arrived) peer numbers m = refl
-unqueued port (ReturnDue back) peer numbers m = refl
+unqueued : (port : ℕ) (x : Due) (peer : Addr) (numbers : ℕ × ℕ) (flow : Flow) (m : Message) → queued_by port x (entry.Accepted peer numbers flow m) ≡ []
+unqueued port NothingDue peer numbers flow m = refl
+unqueued port (FateDue back arrived) peer numbers flow m = refl
+unqueued port (ReturnDue back) peer numbers flow m = refl
 
-pub put_next : (n : NodeState) (d now : Due) (sends asked : List Entry) (w : Work) (peer : Addr) (numbers : ℕ × ℕ) (m : Message) → IsWorked n d now sends asked w
-    → MayStand (scene_at (addr_of_word n.own) n.journal d w.inside) now (entry.Accepted peer numbers Zero m) → IsNext n d now w (entry.Accepted peer numbers Zero m) w.sockets
-put_next n d now sends asked w peer numbers m h stands = record {
-  told = told_entry (addr_of_word n.own) n.journal d w.inside w.sockets h.told h.sound (entry.Accepted peer numbers Zero m) refl (λ port. unqueued port _ peer numbers m) refl tt;
+-- a message is accepted in a flow
+pub told_accepted : (n : NodeState) (d now : Due) (sends asked : List Entry) (w : Work) (peer : Addr) (numbers : ℕ × ℕ) (flow : Flow) (m : Message) → IsWorked n d now sends asked w
+    → MayStand (scene_at (addr_of_word n.own) n.journal d w.inside) now (entry.Accepted peer numbers flow m) → IsNext n d now w (entry.Accepted peer numbers flow m) w.sockets
+told_accepted n d now sends asked w peer numbers flow m h stands = record {
+  told = told_entry (addr_of_word n.own) n.journal d w.inside w.sockets h.told h.sound (entry.Accepted peer numbers flow m) refl (λ port. unqueued port _ peer numbers flow m) refl tt;
   sound = h.sound;
   ports = refl;
-  reached = reached_same n.own n.journal w.inside (entry.Accepted peer numbers Zero m) w.sockets.names (λ a z. refl) h.reached;
+  reached = reached_same n.own n.journal w.inside (entry.Accepted peer numbers flow m) w.sockets.names (λ a z. refl) h.reached;
   stands = stands;
   leaves = λ z. refl;
 }
+
+pub put_next : (n : NodeState) (d now : Due) (sends asked : List Entry) (w : Work) (peer : Addr) (numbers : ℕ × ℕ) (m : Message) → IsWorked n d now sends asked w
+    → MayStand (scene_at (addr_of_word n.own) n.journal d w.inside) now (entry.Accepted peer numbers Zero m) → IsNext n d now w (entry.Accepted peer numbers Zero m) w.sockets
+put_next n d now sends asked w peer numbers m h stands = told_accepted n d now sends asked w peer numbers Zero m h stands
 
 sent_one : (peer : Addr) (numbers : ℕ × ℕ) (m : Message) → is_payload m ≡ true → sent_by NothingDue (entry.Accepted peer numbers Zero m) ≡ entry.Accepted peer numbers Zero m ∷ []
 sent_one peer numbers (Payload importance form from to kind lower upper code droppable body) payload = refl
@@ -224,17 +230,17 @@ abbrev pub AreGiven : List Delivery → Type 0
 AreGiven [] = Unit {0}
 AreGiven (d ∷ ds) = IsGiven d.entry d.message × AreGiven ds
 
-given_one : (peer : ℕ) (numbers : ℕ × ℕ) (o : Opened) → IsGiven (delivery_of Zero peer numbers o).entry (delivery_of Zero peer numbers o).message
-given_one peer numbers (Whole packet by) = of (message_in packet)
+given_one : (flow : Flow) (peer : ℕ) (numbers : ℕ × ℕ) (o : Opened) → IsGiven (delivery_of flow peer numbers o).entry (delivery_of flow peer numbers o).message
+given_one flow peer numbers (Whole packet by) = of (message_in_flow flow packet)
   where
-    of : (x : Option Message) → IsGiven (delivered_by Zero peer numbers x by) x
+    of : (x : Option Message) → IsGiven (delivered_by flow peer numbers x by) x
     of None = tt
     of (Some m) = refl
-given_one peer numbers (Passed place) = tt
+given_one flow peer numbers (Passed place) = tt
 
-pub all_given : (peer : ℕ) (numbers : ℕ × ℕ) (opened : List Opened) → AreGiven (deliveries_of Zero peer numbers opened)
-all_given peer numbers [] = tt
-all_given peer numbers (o ∷ opened) = (given_one peer numbers o, all_given peer numbers opened)
+pub all_given : (flow : Flow) (peer : ℕ) (numbers : ℕ × ℕ) (opened : List Opened) → AreGiven (deliveries_of flow peer numbers opened)
+all_given flow peer numbers [] = tt
+all_given flow peer numbers (o ∷ opened) = (given_one flow peer numbers o, all_given flow peer numbers opened)
 
 -- the contact with a node stays while messages are put
 reached_stable : (own : ℕ) (a : Addr) → IsStable own (λ w. is_some (contact_at w.neighbours a) ≡ true)

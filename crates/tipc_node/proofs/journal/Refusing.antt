@@ -156,7 +156,7 @@ pub none_other : (first other : Option Answer) → or_else first other ≡ None 
 none_other None other is = is
 none_other (Some reason) other is = absurd cc
 
-longer : (a b : ℕ) → nat_lt a b ≡ not (nat_le b a)
+pub longer : (a b : ℕ) → nat_lt a b ≡ not (nat_le b a)
 longer a b = grind (arith, nat_tests)
 
 -- the refusals of the sender come first

@@ -36,7 +36,7 @@ use Rattle.tipc_node.proofs.journal.Putting.{put_contact, put_node, sent_worked,
 
 -- ---- contacts at the beginning of a step
 
-of_pair : (o : Option Neighbour) → option_and_then contact_between (option_map (λ (x : Neighbour). x.pair) o) ≡ option_and_then (λ (x : Neighbour). contact_between x.pair) o
+pub of_pair : (o : Option Neighbour) → option_and_then contact_between (option_map (λ (x : Neighbour). x.pair) o) ≡ option_and_then (λ (x : Neighbour). contact_between x.pair) o
 of_pair None = refl
 of_pair (Some x) = refl
 
@@ -117,7 +117,7 @@ way_refused n node limit reason h packed some is = by (node.word == n.own) refl 
         crowd true many full =
             let here : answer.Congested load.0 load.1 ≡ reason = cc in
             let most : limit ≤ load.1 = grind (arith, nat_tests, many) in
-            subst (WayRefused n node limit) here (crowded load.0 load.1 (full_load (neighbour_at n.neighbours node) load load_is (λ x there. packed (node.word - node_word 0) x there) (omega (arith, some, most))) most
+            subst (WayRefused n node limit) here (crowded load.0 load.1 (full_load (neighbour_at n.neighbours node) load load_is (λ x there. packed.0 (node.word - node_word 0) x there) (omega (arith, some, most))) most
             (reached_by n.own n.journal node true other (sym (load_told n node h) ∙ ap is_some load_is)))
 
     by : (b : Bool) → (node.word == n.own) ≡ b → (if b then None else link_refusal (load_with (neighbour_at n.neighbours node)) limit) ≡ Some reason → WayRefused n node limit reason

@@ -13,7 +13,7 @@ use Rattle.tipc_sockets.specs.Telling.{after_entry}
 use Rattle.tipc_node.specs.declared.neighbours.Upkeep.TheVariants as upkeep
 use Rattle.tipc_node.specs.Calls.{IsChosen, Performs, plan_of, upkeep_work}
 use Rattle.tipc_node.specs.Nodes.{NodeState, step_of}
-use Rattle.tipc_node.specs.Plans.{CarriesOut, Does, DoesUnless, Plan, Dispatch, frames_alone, on_its_way, to_peers}
+use Rattle.tipc_node.specs.Plans.{CarriesOut, Does, DoesUnless, Plan, Dispatch, frames_alone, on_its_way, to_all, to_peers}
 use Rattle.tipc_node.specs.Sockets.{cancelled_work, closed_work, kept_answer, published_work, subscribed_work, withdrawn_work}
 use Rattle.tipc_node.specs.Telling.{ArePacked, IsTold}
 use Rattle.tipc_node.specs.Turns.{NodeTurn}
@@ -21,6 +21,7 @@ use Rattle.tipc_node.specs.Works.{Work, begun}
 use Rattle.tipc_node.proofs.journal.Calling.{EndsWell, IsLawful, IsWell, receive_call, socket_call, tables_lawful}
 use Rattle.tipc_node.proofs.journal.Concluding.{call_told, same_turn}
 use Rattle.tipc_node.proofs.journal.Happening.{upkeep_call}
+use Rattle.tipc_node.proofs.journal.MulticastsTold.{multicast_lawful}
 use Rattle.tipc_node.proofs.journal.NameCalls.{name_lawful}
 use Rattle.tipc_node.proofs.journal.Naming.{close_call, publish_call, published_there, withdraw_call}
 use Rattle.tipc_node.proofs.journal.PortCalls.{port_lawful}
@@ -50,6 +51,7 @@ carried_told n n' by call p frames answered inside h t sound lawful carried = un
     does : (s : Dispatch) → EndsWell s n by call p → Does s n by call p n' frames answered → IsTold n'
     does (frames_alone given) well d = recorded_as p.work (kept_answer p.answered) (ap JournalIn d.0) (ap SocketsIn d.0) well
     does (to_peers told) well d = recorded_as d.0 (kept_answer p.answered) (ap JournalIn d.2) (ap SocketsIn d.2) (well d.0 frames d.1 (subst AreSockets (ap SocketsIn d.2) sound))
+    does (to_all m given) well d = recorded_as p.work (kept_answer p.answered) (ap JournalIn d.1) (ap SocketsIn d.1) well
     does (on_its_way m) well d = recorded_as d.0 (kept_answer p.answered) (ap JournalIn d.2) (ap SocketsIn d.2) (well d.0 frames d.1)
 
     unless : (o : Option Answer) → p.refusal ≡ o → DoesUnless o n by call p n' frames answered → IsTold n'
@@ -87,7 +89,7 @@ plan_lawful n by (event.Cut bearer) chosen h packed choice =
     record { refused = λ reason. never_refused reason; done = λ none inner. (upkeep_work (upkeep.Cut bearer) n, refl, upkeep_call n by (upkeep.Cut bearer) h tt inner) }
 plan_lawful n by (event.Mend bearer) chosen h packed choice =
     record { refused = λ reason. never_refused reason; done = λ none inner. (upkeep_work (upkeep.Mend bearer) n, refl, upkeep_call n by (upkeep.Mend bearer) h tt inner) }
-plan_lawful n by (event.Multicast port kind lower upper importance body) chosen h packed choice = absurd choice
+plan_lawful n by (event.Multicast port kind lower upper importance body) chosen h packed choice = multicast_lawful n by port kind lower upper importance body h packed.1
 plan_lawful n by (event.Arrive bearer number) chosen h packed choice = absurd choice
 
 pub performs_told : (n n' : NodeState) (by : By) (call : EventNote) (frames : List Outgoing) (answered : Answer) → IsTold n → ArePacked n → Performs n by call n' frames answered → (inside : List Entry)

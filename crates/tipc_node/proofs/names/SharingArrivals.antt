@@ -29,10 +29,12 @@ use Rattle.tipc_journal.proofs.StreamLaws.{delivered_nil}
 use Rattle.tipc_pair.specs.declared.transitions.Transition.{Transition}
 use Rattle.tipc_pair.specs.declared.transitions.Transition.TheVariants.{ContactDown, ContactUp, LinkDown, LinkUp}
 use Rattle.tipc_pair.specs.Facing.{PairEnds, contact_between, in_contact}
+use Rattle.tipc_pair.specs.Messages.{opened_in}
 use Rattle.tipc_sockets.specs.SocketTables.{SocketTable}
 use Rattle.tipc_sockets.specs.Telling.{after_entry}
 use Rattle.tipc_node.specs.declared.neighbours.Neighbour.{Neighbour}
 use Rattle.tipc_node.specs.Arrivals.{Arrives, GreetsWhere, Hears}
+use Rattle.tipc_node.specs.CastArrivals.{HearsCast, cast_work}
 use Rattle.tipc_pair.specs.Contacts.{begins, is_of_contact}
 use Rattle.tipc_node.specs.Nodes.{NodeState, change_entries, change_entry, neighbour_of, shown_contact, step_of}
 use Rattle.tipc_node.specs.Sharing.{IsUnused, SharesNames, flow_with}
@@ -44,12 +46,14 @@ use Rattle.tipc_node.proofs.work.Arriving.{by_arrival}
 use Rattle.tipc_pair.proofs.turns.Moves.{contact_by, contact_gone}
 use Rattle.tipc_node.proofs.work.Discovery.{discovered_same}
 use Rattle.tipc_node.proofs.journal.Noting.{all_from}
+use Rattle.tipc_node.proofs.names.SharingCasts.{cast_beside, cast_changes, cast_elsewhere, cast_lives, cast_plain_for, casts_add, is_of_cast}
 use Rattle.tipc_node.proofs.names.SharingDelivered.{filter_apart, is_delivery_of}
 use Rattle.tipc_pair.proofs.turns.PairTells.{Means, Story, began, contact_changes, ended, stays}
 use Rattle.tipc_pair.proofs.turns.TurnMeans.{begins_by_story, contact_by_story}
 use Rattle.tipc_node.proofs.names.SharingEntries.{is_beside, is_plain_for, keeps_live, live_then, names_stay, plain_accepted, same_live, sockets_live}
 use Rattle.tipc_node.proofs.names.SharingFlows.{accepted_then, delivered_of_peer, delivered_then}
 use Rattle.tipc_node.proofs.names.SharingHeard.{IsHeardAt, all_of_arrival, delivery_plain, heard_accepts, heard_at, heard_changes, heard_delivers, is_arrival_of, no_change, no_delivery, no_naming, none_learned, none_told}
+use Rattle.tipc_node.proofs.names.SharingWork.{AddsOf}
 use Rattle.tipc_node.proofs.names.SharingSteps.{SharesAt, contact_there, other_than, shares_from, shown_by}
 use Rattle.tipc_node.proofs.pairs.Strangers.{pair_there}
 use Rattle.tipc_sockets.proofs.ToldNames.{told_bulk, told_users}
@@ -244,6 +248,33 @@ hears_shares n n' by bearer number bytes frames answered h h' shares hears insid
       | inr apart ↦ passed_at n n' bytes s frames b numbers h h' shares t (arrival_passes b peer inside apart (all_of_arrival n n' inside peer heard)) is
     ]
 
+-- a broadcast packet, by which no names change
+cast_passes : (b : ℕ) (es : List Entry) → list_all is_of_cast es ≡ true → PassesBy b es
+cast_passes b es all = record {
+  changes = filter_apart is_of_cast (is_change_of b) (cast_changes b) es all;
+  none_delivered = filter_apart is_of_cast (is_delivered_from b) (cast_elsewhere b) es all;
+  beside = all_from is_of_cast (is_beside b) (cast_beside b) es all;
+  plain = all_from is_of_cast (is_plain_for b) (cast_plain_for b) es all;
+  lives = all_from is_of_cast keeps_live cast_lives es all;
+}
+
+casts_shares : (n n' : NodeState) (by : By) (bearer number : ℕ) (bytes : List ℕ) (frames : List Outgoing) (answered : Arrival) → IsTold n → IsTold n' → SharesNames n → HearsCast n n' by bearer number bytes frames answered → (inside : List Entry)
+    → NodeTurn n n' bytes (step_of by (Arrive bearer number) inside (answer.Arrived answered)) frames → SharesNames n'
+casts_shares n n' by bearer number bytes frames answered h h' shares cast inside t =
+    shares_from n n' bytes s frames h shares t (arrival_own n n' bytes s frames shares t (all_from is_of_cast keeps_live cast_lives inside all)) (λ b numbers is. passed_at n n' bytes s frames b numbers h h' shares t (cast_passes b inside all) is)
+  where
+    s : NodeStep
+    s = step_of by (Arrive bearer number) inside (answer.Arrived answered)
+
+    same : cast.work.inside ≡ inside
+    same = same_inside n.journal by (Arrive bearer number) (Arrive bearer number) cast.work.inside inside (answer.Arrived answered) (answer.Arrived answered) (sym (ap (λ (k : NodeState). k.journal) cast.after) ∙ t.journal)
+
+    adds : AddsOf is_of_cast (cast_work n cast.peer cast.neighbour cast.joining) cast.work
+    adds = casts_add n.own cast.peer (shown_contact cast.neighbour.pair) (opened_in cast.given) (cast_work n cast.peer cast.neighbour cast.joining) cast.work cast.returned cast.delivers
+
+    all : list_all is_of_cast inside ≡ true
+    all = ap (list_all is_of_cast) (sym same ∙ adds.inside) ∙ adds.all
+
 -- an arrival by which nothing is noted
 quiet_shares : (n n' : NodeState) (by : By) (bearer number : ℕ) (bytes : List ℕ) (frames : List Outgoing) (answered : Arrival) → IsTold n → IsTold n' → SharesNames n → (inside : List Entry)
     → NodeTurn n n' bytes (step_of by (Arrive bearer number) inside (answer.Arrived answered)) frames → inside ≡ [] → SharesNames n'
@@ -259,6 +290,7 @@ arrives_shares n n' by bearer number bytes frames answered h shares arrives insi
     (λ reason after none is. quiet (answer.Arrived (arrival.Ignored reason)) (ap (λ (k : NodeState). k.journal) after))
     (λ passes heard. hears_shares n n' by bearer number bytes frames answered h h' shares heard inside t)
     (λ found. quiet (answer.Arrived (arrival.Took 0)) (ap (λ (k : NodeState). k.journal) found.after ∙ ap (λ es. es ++ step_entries (step_of by (Arrive bearer number) [] (answer.Arrived (arrival.Took 0)))) (discovered_same n found.peer bearer).0))
+    (λ cast. casts_shares n n' by bearer number bytes frames answered h h' shares cast inside t)
   where
     -- nothing is inside the step
     quiet : (a : Answer) → n'.journal ≡ n.journal ++ step_entries (step_of by (Arrive bearer number) [] a) → SharesNames n'

@@ -237,7 +237,7 @@ heard_accepts n n' inside peer a =
     let c = shown_contact a.after in
     let front = change_entries peer a.changes in
     let told = map (accepted_in peer c) a.greeting in
-    let none : accepted front (flow_with peer c) ≡ [] = accepted_of peer c front [] [] (changes_accept peer peer a.changes) (accepted_nil (flow_with peer c)) in
+    let none : accepted front (flow_with peer c) ≡ [] = accepted_of peer c front [] [] (changes_accept Zero peer peer a.changes) (accepted_nil (flow_with peer c)) in
     ap (λ es. accepted es (flow_with peer c)) a.inside_is ∙ accepted_append (front ++ told) a.entries (flow_with peer c)
     ∙ ap (λ ms. ms ++ accepted a.entries (flow_with peer c)) (accepted_append front told (flow_with peer c) ∙ ap (λ ms. ms ++ accepted told (flow_with peer c)) none ∙ puts_accepted peer c a.greeting)
 
@@ -247,5 +247,5 @@ heard_delivers n n' inside peer a =
     let front = change_entries peer a.changes in
     let told = map (accepted_in peer c) a.greeting in
     let none : delivered (front ++ told) (flow_with peer c) ≡ [] =
-    delivered_of_peer peer c (front ++ told) [] [] (filter-append (is_delivered_from peer) front told ∙ ap (λ es. es ++ filter (is_delivered_from peer) told) (changes_deliver peer peer a.changes) ∙ greeting_delivers peer peer c a.greeting) (delivered_nil (flow_with peer c)) in
+    delivered_of_peer peer c (front ++ told) [] [] (filter-append (is_delivered_from peer) front told ∙ ap (λ es. es ++ filter (is_delivered_from peer) told) (changes_deliver Zero peer peer a.changes) ∙ greeting_delivers peer peer c a.greeting) (delivered_nil (flow_with peer c)) in
     ap (λ es. delivered es (flow_with peer c)) a.inside_is ∙ delivered_append (front ++ told) a.entries (flow_with peer c) ∙ ap (λ ms. ms ++ delivered a.entries (flow_with peer c)) none ∙ a.brings

@@ -7,6 +7,8 @@ use Rattle.tipc_types.specs.LinkStates.{is_up}
 use Rattle.tipc_types.specs.declared.link_words.Reply.TheVariants as reply
 use Rattle.tipc_outside.specs.declared.outgoing.Outgoing.{Outgoing}
 use Rattle.tipc_send_window.specs.Sending.{release_count}
+use Rattle.tipc_broadcast.specs.Casting.{Casting, IsPackedCast, booted}
+use Rattle.tipc_broadcast.proofs.Packed.{deeds_packed}
 use Rattle.tipc_journal.specs.Steps.{NodeStep}
 use Rattle.tipc_link_fsm.specs.declared.changes.Change.{Change}
 use Rattle.tipc_link_fsm.specs.declared.changes.Change.TheVariants.{Answer, Up}
@@ -152,15 +154,18 @@ first_bearer n b x is_told there =
     abreast.first
 
 pub turn_packed : (n n' : NodeState) (bytes : List ℕ) (s : NodeStep) (frames : List Outgoing) → IsTold n → ArePacked n → NodeTurn n n' bytes s frames → ArePacked n'
-turn_packed n n' bytes s frames is_told packed t b x' there =
-    let at = t.turns b in
-    let x = pair_with n b in
-    let first : x.bearer ≡ 0 = (kept_abreast n b is_told).first in
-    let two : x.bearer ≤ 1 = omega (arith, first) in
-    let before : IsPackedPair x = kept_by IsPackedPair n b (λ none. record { near = tt; far = tt }) (packed b) in
-    let after = turn_kept Packed Any packed_closed x (pair_with n' b) at.opening _ at.reply at.own_frames (made_packed x two before) (both_packed x two before) at.turn in
-    subst IsPackedPair (pair_there n' b x' there) (pair_packed (pair_with n' b) after.0)
+turn_packed n n' bytes s frames is_told packed t = (pairs, subst (λ (v : Casting). IsPackedCast v.sending) (sym t.casting) (deeds_packed t.deeds n.casting packed.1))
+  where
+    pairs : (b : ℕ) (x : Neighbour) → neighbour_of n' b ≡ Some x → IsPackedPair x.pair
+    pairs b x' there =
+        let at = t.turns b in
+        let x = pair_with n b in
+        let first : x.bearer ≡ 0 = (kept_abreast n b is_told).first in
+        let two : x.bearer ≤ 1 = omega (arith, first) in
+        let before : IsPackedPair x = kept_by IsPackedPair n b (λ none. record { near = tt; far = tt }) (packed.0 b) in
+        let after = turn_kept Packed Any packed_closed x (pair_with n' b) at.opening _ at.reply at.own_frames (made_packed x two before) (both_packed x two before) at.turn in
+        subst IsPackedPair (pair_there n' b x' there) (pair_packed (pair_with n' b) after.0)
 
--- a node that knows nobody has none
-pub new_packed : (n : NodeState) → ((b : ℕ) → neighbour_of n b ≡ None) → ArePacked n
-new_packed n alone b x there = absurd (let wrong : None ≡ Some x = sym (alone b) ∙ there in cc)
+-- a node that knows nobody has none, and nothing was cast
+pub new_packed : (n : NodeState) → ((b : ℕ) → neighbour_of n b ≡ None) → (own boot : ℕ) → n.casting ≡ booted own boot → ArePacked n
+new_packed n alone own boot fresh = (λ b x there. absurd (let wrong : None ≡ Some x = sym (alone b) ∙ there in cc), subst (λ (v : Casting). IsPackedCast v.sending) (sym fresh) (omega arith, inl refl))

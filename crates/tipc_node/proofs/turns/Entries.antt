@@ -3,30 +3,35 @@ use Rattle.std.proofs.Common.{◌≡◌, ◌≢◌, ◌+◌, ◌<◌, ◌^◌, �
 use Rattle.std.specs.Prelude.{All}
 use Rattle.std.specs.List.{flat_map, list_all}
 use Rattle.std.proofs.lemmas.Bool.Decides.{nat_tests}
-use Rattle.std.proofs.lemmas.List.Elements.{All-append, All-cons, All-nil, filter-append}
+use Rattle.std.proofs.lemmas.List.Elements.{All-append, All-cons, All-nil, All-weaker, filter-append}
 use Rattle.std.proofs.lemmas.List.Folds.{list_all-append}
-use Rattle.tipc_types.specs.declared.message_forms.Flow.TheVariants.{Zero}
+use Rattle.tipc_types.specs.declared.message_forms.Flow.{Flow}
+use Rattle.tipc_types.specs.declared.message_forms.Flow.TheVariants.{Broadcast, One, Zero}
+use Rattle.tipc_types.specs.declared.message_forms.Message.{Message}
 use Rattle.tipc_types.specs.Address.{node_word}
 use Rattle.tipc_outside.specs.declared.outgoing.Outgoing.{Outgoing}
 use Rattle.tipc_journal.specs.declared.entries.Entry.{Entry}
 use Rattle.tipc_journal.specs.Steps.{IsInside, is_inner}
+use Rattle.tipc_journal.specs.Streams.{flow_eq}
 use Rattle.tipc_reassembly.specs.declared.opening.Opened.{Opened}
 use Rattle.tipc_reassembly.specs.declared.opening.Opened.TheVariants.{Passed, Whole}
 use Rattle.tipc_pair.specs.declared.transitions.Transition.{Transition}
 use Rattle.tipc_pair.specs.declared.transitions.Transition.TheVariants.{ContactDown, ContactUp, LinkDown, LinkUp}
 use Rattle.tipc_node.specs.declared.neighbours.Upkeep.{Upkeep}
 use Rattle.tipc_node.specs.Neighbours.{Done, IsOnBearer}
-use Rattle.tipc_node.specs.Messages.{message_in}
+use Rattle.tipc_node.specs.Messages.{message_in_flow}
 use Rattle.tipc_node.specs.Nodes.{NodeState, change_entries, change_entry, delivered_by, deliveries_of, entries_all, entries_in, entries_one, deeds_all, deeds_one, neighbour_of, numbered_all, numbered_one, parts_of, states_all, states_one, upkeep_deeds}
 use Rattle.tipc_node.specs.Discovery.{requests_by, upkeep_frames}
-use Rattle.tipc_node.specs.Turns.IsRouted.{on_link}
-use Rattle.tipc_node.specs.Turns.{IsOfNeighbour, IsPlaced, IsRouted, addr_of, delivered_entries, delivered_of, is_accepted_for, is_change_of, is_delivered_from}
+use Rattle.tipc_node.specs.Turns.IsRouted.{of_broadcast, on_link}
+use Rattle.tipc_node.specs.Turns.{IsOfNeighbour, IsPlaced, IsRouted, addr_of, delivered_entries, delivered_of, is_accepted_in, is_change_of, is_delivered_in}
 use Rattle.tipc_pair.proofs.turns.Addressing.{AreFor}
 use Rattle.tipc_node.proofs.journal.Telling.{same_word as own_word}
-use Rattle.tipc_broadcast.specs.Deeds.{deeds_frames, is_contact_of, sends_nothing}
+use Rattle.tipc_broadcast.specs.Deeds.{deeds_frames, is_deed_with, is_hearing_of, sends_nothing}
+use Rattle.tipc_broadcast.specs.Pieces.{IsOfBroadcast}
 use Rattle.tipc_node.proofs.turns.Discovery.{requests_routed}
 use Rattle.tipc_node.proofs.turns.Parts.{parts_from}
-use Rattle.tipc_node.proofs.work.Casting.{contacts_silent, deeds_other, deeds_own, silent_both}
+use Rattle.tipc_node.proofs.turns.Lawful.{contacts_unheard, with_other, with_own}
+use Rattle.tipc_node.proofs.work.Casting.{contacts_silent, silent_both}
 
 flat_map_same : {A B : Type 0} (f g : A → List B) (xs : List A) → ((x : A) → f x ≡ g x) → flat_map f xs ≡ flat_map g xs
 flat_map_same f g [] same = refl
@@ -58,17 +63,17 @@ one_is_other b peer apart (LinkDown bearer because shown) = other_word b peer ap
 one_is_other b peer apart (ContactUp numbers) = other_word b peer apart
 one_is_other b peer apart (ContactDown numbers states shown) = other_word b peer apart
 
-one_accepts : (b peer : ℕ) (t : Transition) → is_accepted_for b (change_entry peer t) ≡ false
-one_accepts b peer (LinkUp bearer own theirs) = refl
-one_accepts b peer (LinkDown bearer because shown) = refl
-one_accepts b peer (ContactUp numbers) = refl
-one_accepts b peer (ContactDown numbers states shown) = refl
+one_accepts : (flow : Flow) (b peer : ℕ) (t : Transition) → is_accepted_in flow b (change_entry peer t) ≡ false
+one_accepts flow b peer (LinkUp bearer own theirs) = refl
+one_accepts flow b peer (LinkDown bearer because shown) = refl
+one_accepts flow b peer (ContactUp numbers) = refl
+one_accepts flow b peer (ContactDown numbers states shown) = refl
 
-one_delivers : (b peer : ℕ) (t : Transition) → is_delivered_from b (change_entry peer t) ≡ false
-one_delivers b peer (LinkUp bearer own theirs) = refl
-one_delivers b peer (LinkDown bearer because shown) = refl
-one_delivers b peer (ContactUp numbers) = refl
-one_delivers b peer (ContactDown numbers states shown) = refl
+one_delivers : (flow : Flow) (b peer : ℕ) (t : Transition) → is_delivered_in flow b (change_entry peer t) ≡ false
+one_delivers flow b peer (LinkUp bearer own theirs) = refl
+one_delivers flow b peer (LinkDown bearer because shown) = refl
+one_delivers flow b peer (ContactUp numbers) = refl
+one_delivers flow b peer (ContactDown numbers states shown) = refl
 
 one_is_inner : (peer : ℕ) (t : Transition) → is_inner (change_entry peer t) ≡ true
 one_is_inner peer (LinkUp bearer own theirs) = refl
@@ -88,11 +93,11 @@ changes_own b cs = each_passes (is_change_of b) (change_entry b) (one_is_own b) 
 pub changes_other : (b peer : ℕ) (cs : List Transition) → peer ≢ b → filter (is_change_of b) (change_entries peer cs) ≡ []
 changes_other b peer cs apart = none_passes (is_change_of b) (change_entry peer) (one_is_other b peer apart) cs
 
-pub changes_accept : (b peer : ℕ) (cs : List Transition) → filter (is_accepted_for b) (change_entries peer cs) ≡ []
-changes_accept b peer cs = none_passes (is_accepted_for b) (change_entry peer) (one_accepts b peer) cs
+pub changes_accept : (flow : Flow) (b peer : ℕ) (cs : List Transition) → filter (is_accepted_in flow b) (change_entries peer cs) ≡ []
+changes_accept flow b peer cs = none_passes (is_accepted_in flow b) (change_entry peer) (one_accepts flow b peer) cs
 
-pub changes_deliver : (b peer : ℕ) (cs : List Transition) → filter (is_delivered_from b) (change_entries peer cs) ≡ []
-changes_deliver b peer cs = none_passes (is_delivered_from b) (change_entry peer) (one_delivers b peer) cs
+pub changes_deliver : (flow : Flow) (b peer : ℕ) (cs : List Transition) → filter (is_delivered_in flow b) (change_entries peer cs) ≡ []
+changes_deliver flow b peer cs = none_passes (is_delivered_in flow b) (change_entry peer) (one_delivers flow b peer) cs
 
 pub changes_inside : (peer : ℕ) (cs : List Transition) → IsInside (change_entries peer cs)
 changes_inside peer [] = refl
@@ -107,25 +112,50 @@ changes_placed n peer (t ∷ cs) there = All-cons (IsPlaced n) (change_entry pee
 
 -- ---- the entries of what was given
 
-abbrev pub given_in : ℕ → ℕ × ℕ → List Opened → List Entry
-given_in peer contact opened = entries_in (deliveries_of Zero peer contact opened)
+abbrev pub given_in : Flow → ℕ → ℕ × ℕ → List Opened → List Entry
+given_in flow peer contact opened = entries_in (deliveries_of flow peer contact opened)
 
-pub given_own : (b : ℕ) (contact : ℕ × ℕ) (opened : List Opened) → filter (is_delivered_from b) (given_in b contact opened) ≡ flat_map (delivered_of Zero b contact) opened
-given_own b contact [] = refl
-given_own b contact (Passed place ∷ opened) = given_own b contact opened
-given_own b contact (Whole packet by ∷ opened) =
-    elim (message_in packet) as (λ m. filter (is_delivered_from b) (delivered_by Zero b contact m by ∷ given_in b contact opened) ≡ delivered_entries Zero b contact m by ++ flat_map (delivered_of Zero b contact) opened) [
-      | None ↦ given_own b contact opened
-      | Some m ↦ rw (own_word b) (ap (λ es. delivered_by Zero b contact (Some m) by ∷ es) (given_own b contact opened))
-    ]
+same_flow : (flow : Flow) → flow_eq flow flow ≡ true
+same_flow Zero = refl
+same_flow One = refl
+same_flow Broadcast = refl
 
-pub given_other : (b peer : ℕ) (contact : ℕ × ℕ) (opened : List Opened) → peer ≢ b → filter (is_delivered_from b) (given_in peer contact opened) ≡ []
-given_other b peer contact [] apart = refl
-given_other b peer contact (Passed place ∷ opened) apart = given_other b peer contact opened apart
-given_other b peer contact (Whole packet by ∷ opened) apart = elim (message_in packet) as (λ m. filter (is_delivered_from b) (delivered_by Zero peer contact m by ∷ given_in peer contact opened) ≡ []) [
-  | None ↦ given_other b peer contact opened apart
-  | Some m ↦ rw (other_word b peer apart) (given_other b peer contact opened apart)
-]
+-- of a message that was delivered
+one_given : (flow : Flow) (b : ℕ) (contact : ℕ × ℕ) (o : Option Message) (by : List ℕ) (rest more : List Entry) → filter (is_delivered_in flow b) rest ≡ more
+    → filter (is_delivered_in flow b) (delivered_by flow b contact o by ∷ rest) ≡ delivered_entries flow b contact o by ++ more
+one_given flow b contact None by rest more is = is
+one_given flow b contact (Some m) by rest more is =
+    let e = delivered_by flow b contact (Some m) by in
+    ap (λ t. if t && flow_eq flow flow then e ∷ filter (is_delivered_in flow b) rest else filter (is_delivered_in flow b) rest) (own_word b)
+    ∙ ap (λ t. if t then e ∷ filter (is_delivered_in flow b) rest else filter (is_delivered_in flow b) rest) (same_flow flow)
+    ∙ ap (λ es. e ∷ es) is
+
+pub given_own : (flow : Flow) (b : ℕ) (contact : ℕ × ℕ) (opened : List Opened) → filter (is_delivered_in flow b) (given_in flow b contact opened) ≡ flat_map (delivered_of flow b contact) opened
+given_own flow b contact [] = refl
+given_own flow b contact (Passed place ∷ opened) = given_own flow b contact opened
+given_own flow b contact (Whole packet by ∷ opened) = one_given flow b contact (message_in_flow flow packet) by (given_in flow b contact opened) _ (given_own flow b contact opened)
+
+-- of one that was delivered from another node, or in another flow
+none_given : (flow its : Flow) (b peer : ℕ) (contact : ℕ × ℕ) (o : Option Message) (by : List ℕ) (rest : List Entry) → ((node_word peer == node_word b) && flow_eq its flow) ≡ false → filter (is_delivered_in flow b) rest ≡ []
+    → filter (is_delivered_in flow b) (delivered_by its peer contact o by ∷ rest) ≡ []
+none_given flow its b peer contact None by rest apart is = is
+none_given flow its b peer contact (Some m) by rest apart is =
+    ap (λ t. if t then delivered_by its peer contact (Some m) by ∷ filter (is_delivered_in flow b) rest else filter (is_delivered_in flow b) rest) apart ∙ is
+
+all_ungiven : (flow its : Flow) (b peer : ℕ) (contact : ℕ × ℕ) (opened : List Opened) → ((node_word peer == node_word b) && flow_eq its flow) ≡ false → filter (is_delivered_in flow b) (given_in its peer contact opened) ≡ []
+all_ungiven flow its b peer contact [] apart = refl
+all_ungiven flow its b peer contact (Passed place ∷ opened) apart = all_ungiven flow its b peer contact opened apart
+all_ungiven flow its b peer contact (Whole packet by ∷ opened) apart = none_given flow its b peer contact (message_in_flow its packet) by (given_in its peer contact opened) apart (all_ungiven flow its b peer contact opened apart)
+
+pub given_other : (flow its : Flow) (b peer : ℕ) (contact : ℕ × ℕ) (opened : List Opened) → peer ≢ b → filter (is_delivered_in flow b) (given_in its peer contact opened) ≡ []
+given_other flow its b peer contact opened apart = all_ungiven flow its b peer contact opened (ap (λ t. t && flow_eq its flow) (other_word b peer apart))
+
+pub given_elsewhere : (flow its : Flow) (b peer : ℕ) (contact : ℕ × ℕ) (opened : List Opened) → flow_eq its flow ≡ false → filter (is_delivered_in flow b) (given_in its peer contact opened) ≡ []
+given_elsewhere flow its b peer contact opened apart = all_ungiven flow its b peer contact opened (ap (λ t. (node_word peer == node_word b) && t) apart ∙ and_false (node_word peer == node_word b))
+  where
+    and_false : (t : Bool) → (t && false) ≡ false
+    and_false true = refl
+    and_false false = refl
 
 -- ---- the entries of what happens to all neighbours; the first of them has that number
 
@@ -161,27 +191,27 @@ one_of first (suc k) (x ∷ xs) b is =
 pub all_changes : (xs : List (Option Done)) (b : ℕ) → filter (is_change_of b) (entries_all 0 xs) ≡ entries_one b (slice_index_or xs b None)
 all_changes xs b = one_of 0 b xs b (omega arith)
 
-one_accept : (b c : ℕ) (x : Option Done) → filter (is_accepted_for b) (entries_one c x) ≡ []
-one_accept b c None = refl
-one_accept b c (Some x) = changes_accept b c x.changes
+one_accept : (flow : Flow) (b c : ℕ) (x : Option Done) → filter (is_accepted_in flow b) (entries_one c x) ≡ []
+one_accept flow b c None = refl
+one_accept flow b c (Some x) = changes_accept flow b c x.changes
 
-pub all_accept : (b first : ℕ) (xs : List (Option Done)) → filter (is_accepted_for b) (entries_all first xs) ≡ []
+pub all_accept : (flow : Flow) (b first : ℕ) (xs : List (Option Done)) → filter (is_accepted_in flow b) (entries_all first xs) ≡ []
 unfolding entries_all
-all_accept b first [] = refl
-all_accept b first (x ∷ xs) =
-    filter-append (is_accepted_for b) (entries_one first x) (entries_all (first + 1) xs)
-    ∙ ap (λ es. es ++ filter (is_accepted_for b) (entries_all (first + 1) xs)) (one_accept b first x) ∙ all_accept b (first + 1) xs
+all_accept flow b first [] = refl
+all_accept flow b first (x ∷ xs) =
+    filter-append (is_accepted_in flow b) (entries_one first x) (entries_all (first + 1) xs)
+    ∙ ap (λ es. es ++ filter (is_accepted_in flow b) (entries_all (first + 1) xs)) (one_accept flow b first x) ∙ all_accept flow b (first + 1) xs
 
-one_deliver : (b c : ℕ) (x : Option Done) → filter (is_delivered_from b) (entries_one c x) ≡ []
-one_deliver b c None = refl
-one_deliver b c (Some x) = changes_deliver b c x.changes
+one_deliver : (flow : Flow) (b c : ℕ) (x : Option Done) → filter (is_delivered_in flow b) (entries_one c x) ≡ []
+one_deliver flow b c None = refl
+one_deliver flow b c (Some x) = changes_deliver flow b c x.changes
 
-pub all_deliver : (b first : ℕ) (xs : List (Option Done)) → filter (is_delivered_from b) (entries_all first xs) ≡ []
+pub all_deliver : (flow : Flow) (b first : ℕ) (xs : List (Option Done)) → filter (is_delivered_in flow b) (entries_all first xs) ≡ []
 unfolding entries_all
-all_deliver b first [] = refl
-all_deliver b first (x ∷ xs) =
-    filter-append (is_delivered_from b) (entries_one first x) (entries_all (first + 1) xs)
-    ∙ ap (λ es. es ++ filter (is_delivered_from b) (entries_all (first + 1) xs)) (one_deliver b first x) ∙ all_deliver b (first + 1) xs
+all_deliver flow b first [] = refl
+all_deliver flow b first (x ∷ xs) =
+    filter-append (is_delivered_in flow b) (entries_one first x) (entries_all (first + 1) xs)
+    ∙ ap (λ es. es ++ filter (is_delivered_in flow b) (entries_all (first + 1) xs)) (one_deliver flow b first x) ∙ all_deliver flow b (first + 1) xs
 
 one_inside : (c : ℕ) (x : Option Done) → IsInside (entries_one c x)
 one_inside c None = refl
@@ -203,37 +233,48 @@ unfolding deeds_all
 all_silent first [] = refl
 all_silent first (x ∷ xs) = silent_both (deeds_one first x) (deeds_all (first + 1) xs) (silent_one first x) (all_silent (first + 1) xs)
 
-deeds_own_one : (b : ℕ) (x : Option Done) → filter (is_contact_of (node_word b)) (deeds_one b x) ≡ deeds_one b x
+deeds_own_one : (b : ℕ) (x : Option Done) → filter (is_deed_with (node_word b)) (deeds_one b x) ≡ deeds_one b x
 deeds_own_one b None = refl
-deeds_own_one b (Some x) = deeds_own b x.changes
+deeds_own_one b (Some x) = with_own b x.changes
 
-deeds_other_one : (b c : ℕ) (x : Option Done) → c ≢ b → filter (is_contact_of (node_word b)) (deeds_one c x) ≡ []
+deeds_other_one : (b c : ℕ) (x : Option Done) → c ≢ b → filter (is_deed_with (node_word b)) (deeds_one c x) ≡ []
 deeds_other_one b c None apart = refl
-deeds_other_one b c (Some x) apart = deeds_other c b x.changes (λ e. apart (sym e))
+deeds_other_one b c (Some x) apart = with_other c b x.changes (λ e. apart (sym e))
 
-deeds_below : (first : ℕ) (xs : List (Option Done)) (b : ℕ) → b < first → filter (is_contact_of (node_word b)) (deeds_all first xs) ≡ []
+deeds_below : (first : ℕ) (xs : List (Option Done)) (b : ℕ) → b < first → filter (is_deed_with (node_word b)) (deeds_all first xs) ≡ []
 unfolding deeds_all
 deeds_below first [] b below = refl
 deeds_below first (x ∷ xs) b below =
-    filter-append (is_contact_of (node_word b)) (deeds_one first x) (deeds_all (first + 1) xs)
-    ∙ ap (λ ds. ds ++ filter (is_contact_of (node_word b)) (deeds_all (first + 1) xs)) (deeds_other_one b first x (λ e. omega (arith, below, e)))
+    filter-append (is_deed_with (node_word b)) (deeds_one first x) (deeds_all (first + 1) xs)
+    ∙ ap (λ ds. ds ++ filter (is_deed_with (node_word b)) (deeds_all (first + 1) xs)) (deeds_other_one b first x (λ e. omega (arith, below, e)))
     ∙ deeds_below (first + 1) xs b (omega (arith, below))
 
-deeds_of_one : (first k : ℕ) (xs : List (Option Done)) (b : ℕ) → first + k ≡ b → filter (is_contact_of (node_word b)) (deeds_all first xs) ≡ deeds_one b (slice_index_or xs k None)
+deeds_of_one : (first k : ℕ) (xs : List (Option Done)) (b : ℕ) → first + k ≡ b → filter (is_deed_with (node_word b)) (deeds_all first xs) ≡ deeds_one b (slice_index_or xs k None)
 unfolding deeds_all
 deeds_of_one first k [] b is = refl
 deeds_of_one first zero (x ∷ xs) b is =
     let here : first ≡ b = omega (arith, is) in
-    filter-append (is_contact_of (node_word b)) (deeds_one first x) (deeds_all (first + 1) xs)
-    ∙ ap (λ ds. filter (is_contact_of (node_word b)) (deeds_one first x) ++ ds) (deeds_below (first + 1) xs b (omega (arith, here))) ∙ append-nil _
-    ∙ ap (λ c. filter (is_contact_of (node_word b)) (deeds_one c x)) here ∙ deeds_own_one b x
+    filter-append (is_deed_with (node_word b)) (deeds_one first x) (deeds_all (first + 1) xs)
+    ∙ ap (λ ds. filter (is_deed_with (node_word b)) (deeds_one first x) ++ ds) (deeds_below (first + 1) xs b (omega (arith, here))) ∙ append-nil _
+    ∙ ap (λ c. filter (is_deed_with (node_word b)) (deeds_one c x)) here ∙ deeds_own_one b x
 deeds_of_one first (suc k) (x ∷ xs) b is =
-    filter-append (is_contact_of (node_word b)) (deeds_one first x) (deeds_all (first + 1) xs)
-    ∙ ap (λ ds. ds ++ filter (is_contact_of (node_word b)) (deeds_all (first + 1) xs)) (deeds_other_one b first x (λ e. omega (arith, is, e)))
+    filter-append (is_deed_with (node_word b)) (deeds_one first x) (deeds_all (first + 1) xs)
+    ∙ ap (λ ds. ds ++ filter (is_deed_with (node_word b)) (deeds_all (first + 1) xs)) (deeds_other_one b first x (λ e. omega (arith, is, e)))
     ∙ deeds_of_one (first + 1) k xs b (omega (arith, is))
 
-pub all_deeds : (xs : List (Option Done)) (b : ℕ) → filter (is_contact_of (node_word b)) (deeds_all 0 xs) ≡ deeds_one b (slice_index_or xs b None)
+pub all_deeds : (xs : List (Option Done)) (b : ℕ) → filter (is_deed_with (node_word b)) (deeds_all 0 xs) ≡ deeds_one b (slice_index_or xs b None)
 all_deeds xs b = deeds_of_one 0 b xs b (omega arith)
+
+unheard_one : (w c : ℕ) (x : Option Done) → filter (is_hearing_of w) (deeds_one c x) ≡ []
+unheard_one w c None = refl
+unheard_one w c (Some x) = contacts_unheard w c x.changes
+
+pub all_unheard : (w first : ℕ) (xs : List (Option Done)) → filter (is_hearing_of w) (deeds_all first xs) ≡ []
+unfolding deeds_all
+all_unheard w first [] = refl
+all_unheard w first (x ∷ xs) =
+    filter-append (is_hearing_of w) (deeds_one first x) (deeds_all (first + 1) xs)
+    ∙ ap (λ ds. ds ++ filter (is_hearing_of w) (deeds_all (first + 1) xs)) (unheard_one w first x) ∙ all_unheard w (first + 1) xs
 
 -- ---- of whom they tell
 
@@ -303,12 +344,15 @@ pub numbered_are : (xs : List (Option Done)) → numbered_all xs ≡ flat_map (p
 unfolding numbered_all
 numbered_are xs = flat_map_same numbered_one (part_of (λ x. x.numbered)) xs (λ o. elim o as (λ (p : Option Done). numbered_one p ≡ part_of (λ x. x.numbered) p) [ None ↦ refl | Some x ↦ refl ])
 
--- nothing was broadcast yet, so that nothing leaves by the broadcast link
-pub all_routed : (n : NodeState) (d : Upkeep) → IsOnBearer d → n.boot < 2 ^ 32 → deeds_frames (upkeep_deeds d n) n.casting ≡ [] → AreForEach (parts_of d n) → All (IsRouted n) (upkeep_frames d n)
-all_routed n d one low none each =
+-- those of the broadcast link are of the node's broadcast
+pub casts_routed : (n : NodeState) (frames : List Outgoing) → All (IsOfBroadcast n.boot) frames → All (IsRouted n) frames
+casts_routed n frames all = All-weaker (IsOfBroadcast n.boot) (IsRouted n) (λ o is. of_broadcast is) frames all
+
+pub all_routed : (n : NodeState) (d : Upkeep) → IsOnBearer d → n.boot < 2 ^ 32 → All (IsOfBroadcast n.boot) (deeds_frames (upkeep_deeds d n) n.casting) → AreForEach (parts_of d n) → All (IsRouted n) (upkeep_frames d n)
+all_routed n d one low casts each =
     let os = parts_of d n in
     All-append (IsRouted n) (states_all os ++ requests_by d n) (numbered_all os ++ deeds_frames (upkeep_deeds d n) n.casting)
     (All-append (IsRouted n) (states_all os) (requests_by d n)
     (subst (All (IsRouted n)) (sym (states_are os)) (part_routed n d (λ x. x.states) (λ b x is. (each b x is).0))) (requests_routed d n one low))
-    (subst (All (IsRouted n)) (sym (append-nil (numbered_all os)) ∙ ap (λ fs. numbered_all os ++ fs) (sym none))
-    (subst (All (IsRouted n)) (sym (numbered_are os)) (part_routed n d (λ x. x.numbered) (λ b x is. (each b x is).1))))
+    (All-append (IsRouted n) (numbered_all os) (deeds_frames (upkeep_deeds d n) n.casting)
+    (subst (All (IsRouted n)) (sym (numbered_are os)) (part_routed n d (λ x. x.numbered) (λ b x is. (each b x is).1))) (casts_routed n (deeds_frames (upkeep_deeds d n) n.casting) casts))

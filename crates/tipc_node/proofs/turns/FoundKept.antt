@@ -13,7 +13,7 @@ use Rattle.tipc_types.specs.declared.node_calls.By.{By}
 use Rattle.tipc_types.specs.declared.node_calls.EventNote.{EventNote}
 use Rattle.tipc_types.specs.declared.node_calls.EventNote.TheVariants as event
 use Rattle.tipc_outside.specs.declared.outgoing.Outgoing.{Outgoing}
-use Rattle.tipc_header.specs.declared.frames.FrameKind.TheVariants.{Finds, Links}
+use Rattle.tipc_header.specs.declared.frames.FrameKind.TheVariants.{Casts, Finds, Links}
 use Rattle.tipc_header.specs.Frames.{kind_in}
 use Rattle.tipc_journal.specs.declared.entries.Entry.{Entry}
 use Rattle.tipc_journal.specs.Steps.{NodeStep}
@@ -24,9 +24,10 @@ use Rattle.tipc_pair.specs.PairTurns.Opening.{makes}
 use Rattle.tipc_node.specs.declared.neighbours.Neighbour.{Neighbour}
 use Rattle.tipc_node.specs.Arrivals.{Arrives, Discovers, Hears}
 use Rattle.tipc_node.specs.Calls.{CanPerform, Performs, plan_of}
+use Rattle.tipc_node.specs.CastArrivals.{HearsCast}
 use Rattle.tipc_node.specs.Discovery.{AreFound, found_node, has_found, nobody_heard, with_found}
 use Rattle.tipc_node.specs.Nodes.{NodeState, acquaintance, end_with, kept, neighbour_of, pair_with, step_of}
-use Rattle.tipc_node.specs.Plans.{CarriesOut, Does, DoesUnless, Plan, Dispatch, frames_alone, on_its_way, to_peers}
+use Rattle.tipc_node.specs.Plans.{CarriesOut, Does, DoesUnless, Plan, Dispatch, frames_alone, on_its_way, to_all, to_peers}
 use Rattle.tipc_node.specs.Turns.{AreNamed, IsBrought, IsMaking, NodeTurn}
 use Rattle.tipc_node.proofs.pairs.EndsStay.{made_other, made_there, turn_ends_stay}
 use Rattle.tipc_node.proofs.pairs.Strangers.{alone_near}
@@ -71,6 +72,7 @@ carried_same n n' by call p frames answered carried = unless p.refusal carried
     does (frames_alone given) d = ap (λ (k : NodeState). k.found) d.0
     does (to_peers told) d = ap (λ (k : NodeState). k.found) d.2
     does (on_its_way m) d = ap (λ (k : NodeState). k.found) d.2
+    does (to_all m given) d = ap (λ (k : NodeState). k.found) d.1
 
     unless : (o : Option Answer) → DoesUnless o n by call p n' frames answered → n'.found ≡ n.found
     unless (Some reason) d = ap (λ (k : NodeState). k.found) d.0
@@ -88,6 +90,17 @@ performs_found n n' by call frames answered named are can performs inside kept t
 link_none : (b : ℕ) (bytes : List ℕ) (opening : Opening) → kind_in bytes ≡ Links → IsBrought b bytes opening → IsMaking opening → ⊥
 link_none b bytes (makes bearer is_mended) link brought making = (let wrong : Finds ≡ Links = sym brought.4 ∙ link in cc)
 link_none b bytes other link brought making = making
+
+-- nor by a broadcast packet
+cast_none : (b : ℕ) (bytes : List ℕ) (opening : Opening) → kind_in bytes ≡ Casts → IsBrought b bytes opening → IsMaking opening → ⊥
+cast_none b bytes (makes bearer is_mended) casts brought making = (let wrong : Finds ≡ Casts = sym brought.4 ∙ casts in cc)
+cast_none b bytes other casts brought making = making
+
+cast_found : (n n' : NodeState) (by : By) (bearer number : ℕ) (bytes : List ℕ) (frames : List Outgoing) (answered : Arrival) (inside : List Entry) → AreNamed n → AreFound n → HearsCast n n' by bearer number bytes frames answered
+    → NodeTurn n n' bytes (step_of by (event.Arrive bearer number) inside (answer.Arrived answered)) frames → AreFound n'
+cast_found n n' by bearer number bytes frames answered inside named are h t =
+    turn_found n n' bytes (step_of by (event.Arrive bearer number) inside (answer.Arrived answered)) frames named t (λ b making. cast_none b bytes (t.turns b).opening h.brings.kind (t.turns b).brought making)
+    (ap (λ (k : NodeState). k.found) h.after) are
 
 hears_found : (n n' : NodeState) (by : By) (bearer number : ℕ) (bytes : List ℕ) (frames : List Outgoing) (answered : Arrival) (inside : List Entry) → AreNamed n → AreFound n → Hears n n' by bearer number bytes frames answered
     → NodeTurn n n' bytes (step_of by (event.Arrive bearer number) inside (answer.Arrived answered)) frames → AreFound n'
@@ -164,6 +177,7 @@ arrives_found n n' by bearer number bytes frames answered inside named are arriv
     (λ reason after none is. subst AreFound (sym after) are)
     (λ passes heard. hears_found n n' by bearer number bytes frames answered inside named are heard t)
     (discovers_found n n' by bearer number bytes frames answered named are)
+    (λ heard. cast_found n n' by bearer number bytes frames answered inside named are heard t)
 
 -- ---- a node that knows nobody
 

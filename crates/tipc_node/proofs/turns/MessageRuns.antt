@@ -1,10 +1,11 @@
 -- The work on one message is a run: it is put for a peer, or has its fate; and so is the work on what is delivered.
 use Rattle.std.proofs.Common.{◌≡◌, ◌≢◌, ℕ, Bool, true, false, List, [], ◌∷◌, ◌++◌, Option, Some, None, filter, is_some, inl, inr, refl, sym, ap, ◌∙◌, subst, append-nil, map}
-use Rattle.std.specs.Prelude.{slice_index_or, slice_set}
+use Rattle.std.specs.Prelude.{◌==◌, ◌&&◌, if◌then◌else◌, slice_index_or, slice_set}
 use Rattle.std.specs.List.{All}
 use Rattle.std.proofs.lemmas.Bool.{cases_eq}
 use Rattle.std.proofs.lemmas.List.{get_or-set_other}
 use Rattle.std.proofs.lemmas.List.Elements.{All-append, All-cons, All-nil}
+use Rattle.tipc_types.specs.declared.message_forms.Flow.{Flow}
 use Rattle.tipc_types.specs.declared.message_forms.Flow.TheVariants.{Zero}
 use Rattle.tipc_types.specs.Address.{node_word}
 use Rattle.tipc_types.specs.declared.message_forms.Item.{Item}
@@ -18,7 +19,7 @@ use Rattle.tipc_journal.specs.Dues.{comes_home}
 use Rattle.tipc_journal.specs.Steps.{IsInside, is_inner}
 use Rattle.tipc_name_dist.specs.Applying.{applied, learnt_entries, learnt_entry, misfit_entries}
 use Rattle.tipc_pair.specs.Messages.{pieces_for}
-use Rattle.tipc_pair.specs.PairTurns.{PutsAll, PutsOne}
+use Rattle.tipc_pair.specs.PairTurns.{PutsAll}
 use Rattle.tipc_pair.specs.PairTurns.PutsAll.{none_put, puts_one}
 use Rattle.tipc_reassembly.specs.declared.opening.Opened.{Opened}
 use Rattle.tipc_reassembly.specs.declared.opening.Opened.TheVariants.{Passed, Whole}
@@ -28,12 +29,14 @@ use Rattle.tipc_sockets.specs.Telling.{fate_entry}
 use Rattle.tipc_node.specs.declared.frames.Delivery.{Delivery}
 use Rattle.tipc_node.specs.declared.neighbours.Neighbour.{Neighbour}
 use Rattle.tipc_node.specs.Plans.{GoesItsWay}
-use Rattle.tipc_node.specs.Messages.{IsSendable, bytes_of, message_in}
+use Rattle.tipc_node.specs.Messages.{IsSendable, bytes_of, message_in_flow}
 use Rattle.tipc_node.specs.Nodes.{NodeState, accepted_entry, deliveries_of, delivered_by, entries_in, neighbour_of}
-use Rattle.tipc_node.specs.Turns.{IsOfNeighbour, IsPlaced, addr_of, is_accepted_for, is_change_of, is_delivered_from}
+use Rattle.tipc_node.specs.Neighbours.{PutsThere}
+use Rattle.tipc_node.specs.Turns.{IsOfMessages, IsOfNeighbour, IsPlaced, addr_of, is_accepted_for, is_cast_for, is_cast_from, is_change_of, is_delivered_from}
 use Rattle.tipc_node.specs.Works.{Delivers, DeliversAll, DeliversTo, Follows, GoesBack, Puts, GivesFate, Work, addr_of_word, fate_of, fated, noted, with_items}
 use Rattle.tipc_node.specs.Works.DeliversAll.{none_left, one_more}
 use Rattle.tipc_pair.proofs.turns.Addressing.{AreFor}
+use Rattle.tipc_node.proofs.turns.CastFrames.{links_uncast}
 use Rattle.tipc_node.proofs.turns.Entries.{inside_both, other_word, routed_to}
 use Rattle.tipc_node.proofs.journal.Telling.{same_word as own_word}
 use Rattle.tipc_node.proofs.turns.Named.{put_named}
@@ -48,11 +51,13 @@ pub record AreQuiet (n : NodeState) (es given : List Entry) : Type 0 where
   pub changes : (b : ℕ) → filter (is_change_of b) es ≡ []
   pub accepted : (b : ℕ) → filter (is_accepted_for b) es ≡ []
   pub delivered : (b : ℕ) → filter (is_delivered_from b) es ≡ filter (is_delivered_from b) given
+  pub heard : (b : ℕ) → filter (is_cast_from b) es ≡ filter (is_cast_from b) given
+  pub uncast : (b : ℕ) → filter (is_cast_for b) es ≡ []
   pub inside : IsInside es
   pub placed : All (IsPlaced n) es
 
 pub none_quiet : (n : NodeState) → AreQuiet n [] []
-none_quiet n = record { changes = λ b. refl; accepted = λ b. refl; delivered = λ b. refl; inside = refl; placed = All-nil (IsPlaced n) }
+none_quiet n = record { changes = λ b. refl; accepted = λ b. refl; delivered = λ b. refl; heard = λ b. refl; uncast = λ b. refl; inside = refl; placed = All-nil (IsPlaced n) }
 
 -- work in which such entries are noted, and no frame leaves
 pub quiet_run : (n : NodeState) (w w' : Work) (es given : List Entry) → StandFor n w.neighbours → w'.neighbours ≡ w.neighbours → w'.inside ≡ w.inside ++ es → AreQuiet n es given → IsRun n w given [] w'
@@ -67,9 +72,12 @@ quiet_run n w w' es given stand same inside quiet = record {
     };
     alone = λ b none. ap (λ xs. slice_index_or xs b None) same ∙ none;
     delivered = quiet.delivered;
+    heard = quiet.heard;
+    uncast = quiet.uncast;
     inside = quiet.inside;
     placed = quiet.placed;
     routed = All-nil _;
+    unsent = refl;
     stand = subst (StandFor n) (sym same) stand;
   };
 }
@@ -79,15 +87,21 @@ idle_run n w w' stand same inside = quiet_run n w w' [] [] stand same (inside �
 
 -- ---- a message that is put
 
+-- an entry in flow Zero is none of a broadcast
+never_broadcast : (t : Bool) (e : Entry) → (if t && false then e ∷ [] else []) ≡ []
+never_broadcast true e = refl
+never_broadcast false e = refl
+
 -- where it is put
-own_put : (own peer : ℕ) (x y : Neighbour) (m : Message) (frames : List Outgoing) → PutsOne x.pair (pieces_for (bytes_of own m)) y.pair frames → IsSendable own m → AreFor (node_word peer) frames
+own_put : (own peer : ℕ) (x y : Neighbour) (m : Message) (frames : List Outgoing) → PutsThere x (pieces_for (bytes_of own m)) y frames → IsSendable own m → AreFor (node_word peer) frames
     → RunAt own peer (accepted_entry Zero peer x.pair m ∷ []) frames x y
 own_put own peer x y m frames put sendable all = record {
   messages = m ∷ [];
   sendable = All-cons (IsSendable own) m [] sendable (All-nil (IsSendable own));
-  puts = subst (λ fs. PutsAll x.pair (bytes_of own m ∷ []) fs y.pair) (append-nil frames ∙ sym (frames_to-own peer frames all)) (puts_one x.pair y.pair y.pair (bytes_of own m) [] frames [] put (none_put y.pair));
+  puts = subst (λ fs. PutsAll x.pair (bytes_of own m ∷ []) fs y.pair) (append-nil frames ∙ sym (frames_to-own peer frames all)) (puts_one x.pair y.pair y.pair (bytes_of own m) [] frames [] put.puts (none_put y.pair));
   changes = refl;
   accepted = (rw (own_word peer) refl);
+  casts = put.casts;
 }
 
 -- and where another message isn't
@@ -97,12 +111,12 @@ other_put own b peer x y m frames apart all =
 
 -- the run of it, in what is known of the neighbour
 put_runs : (n : NodeState) (w w' : Work) (peer : ℕ) (x z : Neighbour) (m : Message) (frames : List Outgoing) → StandFor n w.neighbours → slice_index_or w.neighbours peer None ≡ Some x
-    → PutsOne x.pair (pieces_for (bytes_of n.own m)) z.pair frames → IsSendable n.own m → w'.neighbours ≡ slice_set w.neighbours peer (Some z) → w'.inside ≡ w.inside ++ accepted_entry Zero peer x.pair m ∷ []
+    → PutsThere x (pieces_for (bytes_of n.own m)) z frames → IsSendable n.own m → w'.neighbours ≡ slice_set w.neighbours peer (Some z) → w'.inside ≡ w.inside ++ accepted_entry Zero peer x.pair m ∷ []
     → Runs n w (accepted_entry Zero peer x.pair m ∷ []) [] frames w'
 put_runs n w w' peer x z m frames stand was put sendable after inside =
     let es = accepted_entry Zero peer x.pair m ∷ [] in
     let there = stand.within peer x was in
-    let named = put_named (node_word peer) x.pair (pieces_for (bytes_of n.own m)) z.pair frames (stand.named peer x was) put in
+    let named = put_named (node_word peer) x.pair (pieces_for (bytes_of n.own m)) z.pair frames (stand.named peer x was) put.puts in
     let of : IsOfNeighbour n (addr_of peer) = (peer, there, refl) in record {
       inside_is = inside;
       at = λ b y is_there. elim (cases_eq b peer) [
@@ -121,31 +135,35 @@ put_runs n w w' peer x z m frames stand was put sendable after inside =
       ];
       alone = λ b none. ap (λ xs. slice_index_or xs b None) after ∙ set_none w.neighbours peer b x z was none;
       delivered = λ b. refl;
+      heard = λ b. refl;
+      uncast = λ b. never_broadcast (node_word peer == node_word b) (accepted_entry Zero peer x.pair m);
       inside = refl;
-      placed = All-cons (IsPlaced n) (accepted_entry Zero peer x.pair m) [] (of, refl) (All-nil (IsPlaced n));
+      placed = All-cons (IsPlaced n) (accepted_entry Zero peer x.pair m) [] (of, tt) (All-nil (IsPlaced n));
       routed = routed_to n peer frames there named.frames_are;
+      unsent = links_uncast (node_word peer) frames named.frames_are;
       stand = subst (StandFor n) (sym after) (stand_set n w.neighbours peer z stand named.pair_is there);
     }
 
 pub put_run : (n : NodeState) (w w' : Work) (peer : ℕ) (m : Message) (frames : List Outgoing) → StandFor n w.neighbours → Puts n.own w peer m w' frames → IsRun n w [] frames w'
 put_run n w w' peer m frames stand h = record {
   noted = accepted_entry Zero peer h.neighbour.pair m ∷ [];
-  runs = put_runs n w w' peer h.neighbour h.then m frames stand h.was h.puts.puts h.sendable (ap (λ (v : Work). v.neighbours) h.after) (ap (λ (v : Work). v.inside) h.after);
+  runs = put_runs n w w' peer h.neighbour h.then m frames stand h.was h.puts h.sendable (ap (λ (v : Work). v.neighbours) h.after) (ap (λ (v : Work). v.inside) h.after);
 }
 
 -- ---- a fate
 
 pub quiet_one : (n : NodeState) (e : Entry) → ((b : ℕ) → filter (is_change_of b) (e ∷ []) ≡ []) → ((b : ℕ) → filter (is_accepted_for b) (e ∷ []) ≡ []) → ((b : ℕ) → filter (is_delivered_from b) (e ∷ []) ≡ [])
+    → ((b : ℕ) → filter (is_cast_from b) (e ∷ []) ≡ []) → ((b : ℕ) → filter (is_cast_for b) (e ∷ []) ≡ [])
     → is_inner e ≡ true → IsPlaced n e → AreQuiet n (e ∷ []) []
-quiet_one n e changes accepted delivered inner placed =
-    record { changes = changes; accepted = accepted; delivered = delivered; inside = (rw inner refl); placed = All-cons (IsPlaced n) e [] placed (All-nil (IsPlaced n)) }
+quiet_one n e changes accepted delivered heard uncast inner placed =
+    record { changes = changes; accepted = accepted; delivered = delivered; heard = heard; uncast = uncast; inside = (rw inner refl); placed = All-cons (IsPlaced n) e [] placed (All-nil (IsPlaced n)) }
 
-fate_quiet : (n : NodeState) (f : Fate) → AreQuiet n (fate_entry f ∷ []) []
-fate_quiet n (Queued ports) = quiet_one n (entry.Queued ports) (λ b. refl) (λ b. refl) (λ b. refl) refl tt
-fate_quiet n (Returned (Payload importance form from to kind lower upper code droppable body)) = quiet_one n (entry.Returned code) (λ b. refl) (λ b. refl) (λ b. refl) refl tt
-fate_quiet n (Returned (Items withdrawal items)) = quiet_one n (entry.Dropped 0) (λ b. refl) (λ b. refl) (λ b. refl) refl tt
-fate_quiet n (ReturnDropped waiting) = quiet_one n (entry.ReturnDropped waiting) (λ b. refl) (λ b. refl) (λ b. refl) refl tt
-fate_quiet n Dropped = quiet_one n (entry.Dropped 0) (λ b. refl) (λ b. refl) (λ b. refl) refl tt
+pub fate_quiet : (n : NodeState) (f : Fate) → AreQuiet n (fate_entry f ∷ []) []
+fate_quiet n (Queued ports) = quiet_one n (entry.Queued ports) (λ b. refl) (λ b. refl) (λ b. refl) (λ b. refl) (λ b. refl) refl tt
+fate_quiet n (Returned (Payload importance form from to kind lower upper code droppable body)) = quiet_one n (entry.Returned code) (λ b. refl) (λ b. refl) (λ b. refl) (λ b. refl) (λ b. refl) refl tt
+fate_quiet n (Returned (Items withdrawal items)) = quiet_one n (entry.Dropped 0) (λ b. refl) (λ b. refl) (λ b. refl) (λ b. refl) (λ b. refl) refl tt
+fate_quiet n (ReturnDropped waiting) = quiet_one n (entry.ReturnDropped waiting) (λ b. refl) (λ b. refl) (λ b. refl) (λ b. refl) (λ b. refl) refl tt
+fate_quiet n Dropped = quiet_one n (entry.Dropped 0) (λ b. refl) (λ b. refl) (λ b. refl) (λ b. refl) (λ b. refl) refl tt
 
 fated_run : (n : NodeState) (w : Work) (m : Message) (f : Fate) → StandFor n w.neighbours → IsRun n w [] [] (fated w m f)
 fated_run n w m f stand = quiet_run n w (fated w m f) (fate_entry f ∷ []) [] stand refl refl (fate_quiet n f)
@@ -182,13 +200,15 @@ both_quiet n xs ys first later = record {
   changes = λ b. both_parts (is_change_of b) xs ys [] [] (first.changes b) (later.changes b);
   accepted = λ b. both_parts (is_accepted_for b) xs ys [] [] (first.accepted b) (later.accepted b);
   delivered = λ b. both_parts (is_delivered_from b) xs ys [] [] (first.delivered b) (later.delivered b);
+  heard = λ b. both_parts (is_cast_from b) xs ys [] [] (first.heard b) (later.heard b);
+  uncast = λ b. both_parts (is_cast_for b) xs ys [] [] (first.uncast b) (later.uncast b);
   inside = inside_both xs ys first.inside later.inside;
   placed = All-append (IsPlaced n) xs ys first.placed later.placed;
 }
 
 one_quiet : (n : NodeState) (withdrawal : Bool) (items : List Item) (p : Publication) → AreQuiet n (learnt_entry (Items withdrawal items) p ∷ []) []
-one_quiet n false items p = quiet_one n (entry.Learned p) (λ b. refl) (λ b. refl) (λ b. refl) refl tt
-one_quiet n true items p = quiet_one n (entry.Forgot p) (λ b. refl) (λ b. refl) (λ b. refl) refl tt
+one_quiet n false items p = quiet_one n (entry.Learned p) (λ b. refl) (λ b. refl) (λ b. refl) (λ b. refl) (λ b. refl) refl tt
+one_quiet n true items p = quiet_one n (entry.Forgot p) (λ b. refl) (λ b. refl) (λ b. refl) (λ b. refl) (λ b. refl) refl tt
 
 learnt_quiet : (n : NodeState) (withdrawal : Bool) (items : List Item) (ps : List Publication) → AreQuiet n (map (learnt_entry (Items withdrawal items)) ps) []
 learnt_quiet n withdrawal items [] = none_quiet n
@@ -197,7 +217,7 @@ learnt_quiet n withdrawal items (p ∷ ps) =
 
 misfit_quiet : (n : NodeState) (bad : Option ℕ) → AreQuiet n (misfit_entries bad) []
 misfit_quiet n None = none_quiet n
-misfit_quiet n (Some place) = quiet_one n (entry.Dropped place) (λ b. refl) (λ b. refl) (λ b. refl) refl tt
+misfit_quiet n (Some place) = quiet_one n (entry.Dropped place) (λ b. refl) (λ b. refl) (λ b. refl) (λ b. refl) (λ b. refl) refl tt
 
 with_items_run : (n : NodeState) (peer : ℕ) (w : Work) (withdrawal : Bool) (items : List Item) → StandFor n w.neighbours → IsRun n w [] [] (with_items peer w (Items withdrawal items))
 with_items_run n peer w withdrawal items stand =
@@ -214,18 +234,27 @@ AllQuiet n (d ∷ ds) = AreQuiet n (d.entry ∷ []) (d.entry ∷ []) × AllQuiet
 
 -- one that tells of no delivery
 not_given : (n : NodeState) (e : Entry) → AreQuiet n (e ∷ []) [] → AreQuiet n (e ∷ []) (e ∷ [])
-not_given n e quiet = record { changes = quiet.changes; accepted = quiet.accepted; delivered = λ b. refl; inside = quiet.inside; placed = quiet.placed }
+not_given n e quiet = record { changes = quiet.changes; accepted = quiet.accepted; delivered = λ b. refl; heard = λ b. refl; uncast = quiet.uncast; inside = quiet.inside; placed = quiet.placed }
 
-one_given : (n : NodeState) (peer : ℕ) (contact : ℕ × ℕ) (o : Option Message) (by : List ℕ) → is_some (neighbour_of n peer) ≡ true → AreQuiet n (delivered_by Zero peer contact o by ∷ []) (delivered_by Zero peer contact o by ∷ [])
-one_given n peer contact None by there = not_given n (entry.Dropped 0) (quiet_one n (entry.Dropped 0) (λ b. refl) (λ b. refl) (λ b. refl) refl tt)
-one_given n peer contact (Some m) by there =
-    let of : IsOfNeighbour n (addr_of peer) = (peer, there, refl) in
-    record { changes = λ b. refl; accepted = λ b. refl; delivered = λ b. refl; inside = refl; placed = All-cons (IsPlaced n) (delivered_by Zero peer contact (Some m) by) [] (of, refl) (All-nil (IsPlaced n)) }
+one_given : (n : NodeState) (flow : Flow) (peer : ℕ) (contact : ℕ × ℕ) (o : Option Message) (by : List ℕ) → IsOfMessages flow → is_some (neighbour_of n peer) ≡ true
+    → AreQuiet n (delivered_by flow peer contact o by ∷ []) (delivered_by flow peer contact o by ∷ [])
+one_given n flow peer contact None by one there = not_given n (entry.Dropped 0) (quiet_one n (entry.Dropped 0) (λ b. refl) (λ b. refl) (λ b. refl) (λ b. refl) (λ b. refl) refl tt)
+one_given n flow peer contact (Some m) by one there =
+    let of : IsOfNeighbour n (addr_of peer) = (peer, there, refl) in record {
+      changes = λ b. refl;
+      accepted = λ b. refl;
+      delivered = λ b. refl;
+      heard = λ b. refl;
+      uncast = λ b. refl;
+      inside = refl;
+      placed = All-cons (IsPlaced n) (delivered_by flow peer contact (Some m) by) [] (of, one) (All-nil (IsPlaced n));
+    }
 
-all_given : (n : NodeState) (peer : ℕ) (contact : ℕ × ℕ) (opened : List Opened) → is_some (neighbour_of n peer) ≡ true → AllQuiet n (deliveries_of Zero peer contact opened)
-all_given n peer contact [] there = tt
-all_given n peer contact (Passed place ∷ opened) there = (not_given n (entry.Dropped place) (quiet_one n (entry.Dropped place) (λ b. refl) (λ b. refl) (λ b. refl) refl tt), all_given n peer contact opened there)
-all_given n peer contact (Whole packet by ∷ opened) there = (one_given n peer contact (message_in packet) by there, all_given n peer contact opened there)
+all_given : (n : NodeState) (flow : Flow) (peer : ℕ) (contact : ℕ × ℕ) (opened : List Opened) → IsOfMessages flow → is_some (neighbour_of n peer) ≡ true → AllQuiet n (deliveries_of flow peer contact opened)
+all_given n flow peer contact [] one there = tt
+all_given n flow peer contact (Passed place ∷ opened) one there =
+    (not_given n (entry.Dropped place) (quiet_one n (entry.Dropped place) (λ b. refl) (λ b. refl) (λ b. refl) (λ b. refl) (λ b. refl) refl tt), all_given n flow peer contact opened one there)
+all_given n flow peer contact (Whole packet by ∷ opened) one there = (one_given n flow peer contact (message_in_flow flow packet) by one there, all_given n flow peer contact opened one there)
 
 delivers_to_run : (n : NodeState) (peer : ℕ) (w w' : Work) (o : Option Message) (frames : List Outgoing) → StandFor n w.neighbours → DeliversTo n.own peer w o w' frames → IsRun n w [] frames w'
 delivers_to_run n peer w w' None frames stand h = run_as n w w w' [] frames [] h.0 h.1 (idle_run n w w stand refl refl)
@@ -247,6 +276,7 @@ quiet_all_run n peer w w' _ _ stand quiet (one_more _ v _ d ds fs fs' one all) =
     let first = delivers_run n peer w v d fs stand quiet.0 one in
     run_then n w v w' (d.entry ∷ []) (entries_in ds) fs fs' first (quiet_all_run n peer v w' ds fs' first.runs.stand quiet.1 all)
 
-pub delivers_all_run : (n : NodeState) (w w' : Work) (peer : ℕ) (contact : ℕ × ℕ) (opened : List Opened) (frames : List Outgoing) → is_some (neighbour_of n peer) ≡ true → StandFor n w.neighbours
-    → DeliversAll n.own peer w (deliveries_of Zero peer contact opened) w' frames → IsRun n w (entries_in (deliveries_of Zero peer contact opened)) frames w'
-delivers_all_run n w w' peer contact opened frames there stand h = quiet_all_run n peer w w' (deliveries_of Zero peer contact opened) frames stand (all_given n peer contact opened there) h
+pub delivers_all_run : (n : NodeState) (w w' : Work) (flow : Flow) (peer : ℕ) (contact : ℕ × ℕ) (opened : List Opened) (frames : List Outgoing) → IsOfMessages flow → is_some (neighbour_of n peer) ≡ true → StandFor n w.neighbours
+    → DeliversAll n.own peer w (deliveries_of flow peer contact opened) w' frames → IsRun n w (entries_in (deliveries_of flow peer contact opened)) frames w'
+delivers_all_run n w w' flow peer contact opened frames one there stand h =
+    quiet_all_run n peer w w' (deliveries_of flow peer contact opened) frames stand (all_given n flow peer contact opened one there) h

@@ -14,6 +14,7 @@ use Rattle.tipc_outside.proofs.Adding.{adds_more, gains_more, gains_none}
 use Rattle.tipc_broadcast.specs.Casting.{Casting, shown}
 use Rattle.tipc_broadcast.specs.Contacts.{has_joined}
 use Rattle.tipc_broadcast.specs.Deeds.{CastDeed, after_deeds, deeds_frames}
+use Rattle.tipc_broadcast.proofs.Apart.{IsLikeFor, deeds_like}
 use Rattle.tipc_broadcast.proofs.Deeds.{after_more, frames_more}
 use Rattle.tipc_node.specs.declared.neighbours.Neighbour.{Neighbour}
 use Rattle.tipc_node.specs.declared.neighbours.Parting.{Parting}
@@ -24,7 +25,8 @@ use Rattle.tipc_node.specs.Neighbours.{Done, course_of, done}
 use Rattle.tipc_node.specs.Nodes.{NodeState, after_all, after_one, change_entries, changes_at, deeds_all, deeds_one, entries_all, entries_one, is_met, made_all, made_one, neighbour_of, numbered_all, numbered_one, part_all, part_at, parts_of, states_all, states_one, upkeep_deeds}
 use Rattle.tipc_node.specs.Partings.{AreAllJoined, ComesOf, ComesOfAll, TookPart, TookParts}
 use Rattle.tipc_node.specs.Turns.{HaveJoined}
-use Rattle.tipc_node.proofs.work.Casting.{joined_there, other_joined}
+use Rattle.tipc_node.proofs.turns.Lawful.{contacts_apart}
+use Rattle.tipc_node.proofs.work.Casting.{contacts_silent, joined_there, other_joined}
 
 -- ---- one neighbour more
 
@@ -79,42 +81,61 @@ pub record IsPartOf (n : NodeState) (d : Upkeep) (b : ℕ) (y : Done) : Type 0 w
   pub link : Casting
   pub is : y ≡ done d (shown link (node_word b)) neighbour
 
--- the part at a place
+-- the part at a place; the broadcast link has accepted what it had, and has the contact with that peer that it had
 record IsPartAt (d : Upkeep) (b : ℕ) (v : Casting) (place : Option Neighbour) (o : Option Done) : Type 0 where
   link : Casting
   deeds : List CastDeed
   link_is : link ≡ after_deeds deeds v
+  like : IsLikeFor (node_word b) v link
   is : o ≡ part_at d b link place
+
+like_then : (w : ℕ) (u v x : Casting) → IsLikeFor w u v → IsLikeFor w v x → IsLikeFor w u x
+like_then w u v x h k = record { contact = k.contact ∙ h.contact; accepted_is = k.accepted_is ∙ h.accepted_is }
 
 part_there : (d : Upkeep) (first : ℕ) (v : Casting) (xs : List (Option Neighbour)) (k : ℕ) → IsPartAt d (first + k) v (slice_index_or xs k None) (slice_index_or (part_all d first v xs) k None)
 unfolding part_all
-part_there d first v [] k = record { link = v; deeds = []; link_is = refl; is = refl }
-part_there d first v (x ∷ xs) zero = record { link = v; deeds = []; link_is = refl; is = ap (λ b. part_at d b v x) (sym (add-zero first)) }
+part_there d first v [] k = record { link = v; deeds = []; link_is = refl; like = record { contact = refl; accepted_is = refl }; is = refl }
+part_there d first v (x ∷ xs) zero =
+    record { link = v; deeds = []; link_is = refl; like = record { contact = refl; accepted_is = refl }; is = ap (λ b. part_at d b v x) (sym (add-zero first)) }
 part_there d first v (x ∷ xs) (suc k) =
-    let before = deeds_one first (part_at d first v x) in
-    let later = part_there d (first + 1) (after_deeds before v) xs k in
+    let changes = changes_at (part_at d first v x) in
+    let before = contact_deeds first changes in
+    let w = after_deeds before v in
+    let later = part_there d (first + 1) w xs k in
+    let apart : first + suc k ≢ first = (λ same. omega (arith, same)) in
+    let place : first + 1 + k ≡ first + suc k = omega arith in
     record {
       link = later.link;
       deeds = before ++ later.deeds;
       link_is = later.link_is ∙ sym (after_more before later.deeds v);
+      like = like_then (node_word (first + suc k)) v w later.link (deeds_like (node_word (first + suc k)) before v (contacts_apart first (first + suc k) changes apart) (contacts_silent first changes))
+          (subst (λ j. IsLikeFor (node_word j) w later.link) place later.like);
       is = later.is ∙ ap (λ b. part_at d b later.link (slice_index_or xs k None)) (omega arith);
     }
+
+bearers_like : (d : Upkeep) (w : ℕ) (v : Casting) → IsLikeFor w v (after_deeds (bearer_deeds d) v)
+bearers_like (upkeep.Mend bearer) w v = record { contact = refl; accepted_is = refl }
+bearers_like (upkeep.Cut bearer) w v = record { contact = refl; accepted_is = refl }
+bearers_like upkeep.Tick w v = record { contact = refl; accepted_is = refl }
 
 -- each neighbour has its part
 pub record HasPart (n : NodeState) (d : Upkeep) (b : ℕ) (x : Neighbour) : Type 0 where
   pub link : Casting
   pub deeds : List CastDeed
   pub link_is : link ≡ after_deeds deeds n.casting
+  pub like : IsLikeFor (node_word b) n.casting link
   pub there : slice_index_or (parts_of d n) b None ≡ Some (done d (shown link (node_word b)) x)
 
 pub has_part : (n : NodeState) (d : Upkeep) (b : ℕ) (x : Neighbour) → neighbour_of n b ≡ Some x → HasPart n d b x
 unfolding parts_of
 has_part n d b x there =
-    let p = part_there d 0 (after_deeds (bearer_deeds d) n.casting) n.neighbours b in
+    let v = after_deeds (bearer_deeds d) n.casting in
+    let p = part_there d 0 v n.neighbours b in
     record {
       link = p.link;
       deeds = bearer_deeds d ++ p.deeds;
       link_is = p.link_is ∙ sym (after_more (bearer_deeds d) p.deeds n.casting);
+      like = like_then (node_word b) n.casting v p.link (bearers_like d (node_word b) n.casting) (subst (λ j. IsLikeFor (node_word j) v p.link) (zero-add b) p.like);
       there = p.is ∙ ap (λ k. part_at d k p.link (neighbour_of n b)) (zero-add b) ∙ ap (part_at d b p.link) there;
     }
 

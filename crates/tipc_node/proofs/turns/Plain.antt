@@ -1,13 +1,17 @@
--- The answers of calls: the journal keeps all of each, but for a message that was received, and none tells of an arrival.
-use Rattle.std.proofs.Common.{◌≡◌, ℕ, List, [], ◌∷◌, Option, Some, None, is_some, length, nat_le, not, refl}
+-- The answers of calls: the journal keeps all of each, but for a message that was received, and none tells of an arrival. A call that is refused
+-- is a turn of the node.
+use Rattle.std.proofs.Common.{◌≡◌, ◌∙◌, ℕ, List, [], ◌∷◌, Option, Some, None, is_some, length, nat_le, not, refl, ap}
 use Rattle.std.specs.Prelude.{◌==◌, ◌||◌, if◌then◌else◌, nat_lt, option_map}
 use Rattle.tipc_types.specs.declared.identity.Addr.{Addr}
 use Rattle.tipc_types.specs.declared.message_forms.Message.{Message}
 use Rattle.tipc_types.specs.declared.node_calls.Answer.{Answer}
 use Rattle.tipc_types.specs.declared.node_calls.Answer.TheVariants as answer
+use Rattle.tipc_types.specs.declared.node_calls.By.{By}
 use Rattle.tipc_types.specs.declared.node_calls.Event.{Event}
+use Rattle.tipc_types.specs.declared.node_calls.EventNote.{EventNote}
 use Rattle.tipc_types.specs.declared.node_calls.Subscription.{Subscription}
 use Rattle.tipc_types.specs.declared.services.Publication.{Publication}
+use Rattle.tipc_outside.specs.declared.outgoing.Outgoing.{Outgoing}
 use Rattle.tipc_journal.specs.Licensed.{next_answer}
 use Rattle.tipc_journal.specs.Refusals.{longest_body, most_sockets, most_sockets_made, most_subscriptions, most_subscriptions_made}
 use Rattle.tipc_topology.specs.Changing.{is_filter, of_number}
@@ -17,12 +21,14 @@ use Rattle.tipc_sockets.specs.Publishing.{publish_refusal, published_at}
 use Rattle.tipc_sockets.specs.SocketTables.{SocketTable, has_port}
 use Rattle.tipc_node.specs.declared.neighbours.Neighbour.{Neighbour}
 use Rattle.tipc_node.specs.Calls.{sender_refusal}
-use Rattle.tipc_node.specs.Nodes.{NodeState, load_with}
+use Rattle.tipc_node.specs.Nodes.{NodeState, load_with, recorded}
 use Rattle.tipc_node.specs.Plans.{link_refusal, or_else, way_refusal}
 use Rattle.tipc_node.specs.Sockets.{crowd_refusal, crowded_answer, first_answer, first_crowded, kept_answer, key_refusal, number_refusal, port_refusal, publication_refusal, refused_publication, socket_refusal, subscription_refusal, withdrawal_refusal}
-use Rattle.tipc_node.specs.Works.{neighbour_at}
+use Rattle.tipc_node.specs.Turns.{AreNamed}
+use Rattle.tipc_node.specs.Works.{begun, neighbour_at}
 use Rattle.tipc_pair.proofs.turns.Addressing.{either}
-use Rattle.tipc_node.proofs.turns.Turning.{IsUntaken}
+use Rattle.tipc_node.proofs.turns.MessageRuns.{idle_run}
+use Rattle.tipc_node.proofs.turns.Turning.{IsTurn, IsUntaken, named_stand, run_turn, turn_as}
 
 -- an answer of which the journal keeps all, and which isn't an arrival's
 pub record IsPlain (a : Answer) : Type 0 where
@@ -110,3 +116,15 @@ way_plain n node limit =
 pub received_untaken : (queue : List Message) → IsUntaken (kept_answer (first_answer queue))
 received_untaken [] = tt
 received_untaken (m ∷ queue) = tt
+
+-- ---- a call that is refused
+
+-- a call was a turn
+abbrev pub IsCall : NodeState → NodeState → By → EventNote → List Outgoing → Answer → Type 0
+IsCall n n' by call frames answered = IsTurn n n' by call [] frames (kept_answer answered)
+
+pub refused_turn : (n n' : NodeState) (by : By) (call : EventNote) (reason : Answer) (frames : List Outgoing) (answered : Answer) → AreNamed n → IsPlain reason
+    → n' ≡ recorded n by call [] reason → frames ≡ [] → answered ≡ reason → IsCall n n' by call frames answered
+refused_turn n n' by call reason frames answered named plain after none is =
+    turn_as n n' (recorded n by call [] reason) by call [] frames [] (kept_answer answered) reason after none (ap kept_answer is ∙ plain.kept)
+    (run_turn n by call [] reason (begun n) [] plain.untaken (idle_run n (begun n) (begun n) (named_stand n named) refl refl))

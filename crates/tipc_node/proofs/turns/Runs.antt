@@ -1,5 +1,5 @@
 -- A run of a node's work in a step: entries that are noted, and messages that are put. What it does at each peer, and how one follows another.
-use Rattle.std.proofs.Common.{◌≡◌, ℕ, Bool, true, List, [], ◌++◌, Option, Some, None, filter, is_some, map, inl, inr, sym, ap, ◌∙◌, subst, append_assoc}
+use Rattle.std.proofs.Common.{◌≡◌, ℕ, Bool, true, List, [], ◌++◌, Option, Some, None, filter, is_some, map, inl, inr, refl, sym, ap, ◌∙◌, subst, append_assoc}
 use Rattle.std.specs.Prelude.{slice_index_or, slice_set}
 use Rattle.std.specs.List.{All}
 use Rattle.std.proofs.lemmas.List.{map-append}
@@ -17,7 +17,7 @@ use Rattle.tipc_pair.specs.PairTurns.PutsAll.{none_put}
 use Rattle.tipc_node.specs.declared.neighbours.Neighbour.{Neighbour}
 use Rattle.tipc_node.specs.Messages.{IsSendable, bytes_of}
 use Rattle.tipc_node.specs.Nodes.{NodeState, accepted_entry, neighbour_of, shown_contact}
-use Rattle.tipc_node.specs.Turns.{IsPlaced, IsRouted, addr_of, frames_to, is_accepted_for, is_change_of, is_delivered_from, is_out_to}
+use Rattle.tipc_node.specs.Turns.{IsPlaced, IsRouted, addr_of, casts_in, frames_to, is_accepted_for, is_cast_for, is_cast_from, is_cast_out, is_change_of, is_delivered_from, is_out_to}
 use Rattle.tipc_pair.specs.Addressed.{Names}
 use Rattle.tipc_node.specs.Works.{Work}
 use Rattle.tipc_node.proofs.turns.Entries.{inside_both}
@@ -54,6 +54,8 @@ pub record RunAt (own b : ℕ) (es : List Entry) (frames : List Outgoing) (x x' 
   pub puts : PutsAll x.pair (map (bytes_of own) messages) (frames_to b frames) x'.pair
   pub changes : filter (is_change_of b) es ≡ []
   pub accepted : filter (is_accepted_for b) es ≡ map (accepted_entry Zero b x.pair) messages
+  -- what is begun of its broadcast stays
+  pub casts : x'.casts ≡ x.casts
 
 -- what of both parts passes a test
 pub both_parts : (test : Entry → Bool) (xs ys front back : List Entry) → filter test xs ≡ front → filter test ys ≡ back → filter test (xs ++ ys) ≡ front ++ back
@@ -80,6 +82,7 @@ then_at own b es es' fs fs' x y z h k =
           both_parts (is_accepted_for b) es es' (map (accepted_entry Zero b x.pair) h.messages) (map (accepted_entry Zero b x.pair) k.messages) h.accepted
           (k.accepted ∙ ap (λ contact. map (accepted_in b contact) k.messages) same)
           ∙ sym (map-append (accepted_entry Zero b x.pair) h.messages k.messages);
+      casts = k.casts ∙ h.casts;
     }
 
 -- they are accepted in the contact that there is behind them
@@ -95,6 +98,7 @@ still_at own b es frames x none changes accepted = record {
   puts = subst (λ fs. PutsAll x.pair [] fs x.pair) (sym none) (none_put x.pair);
   changes = changes;
   accepted = accepted;
+  casts = refl;
 }
 
 -- ---- all peers
@@ -105,15 +109,19 @@ pub record NowAt (own b : ℕ) (es : List Entry) (frames : List Outgoing) (x : N
   pub now_is : slice_index_or xs b None ≡ Some now
   pub run : RunAt own b es frames x now
 
--- A run of work noted these entries, in which the deliveries are these ones, and these frames left.
+-- A run of work noted these entries, in which the deliveries are these ones, and these frames left. It tells of no message that was cast, and none
+-- of its frames is of a broadcast.
 pub record Runs (n : NodeState) (w : Work) (es given : List Entry) (frames : List Outgoing) (w' : Work) : Type 0 where
   pub inside_is : w'.inside ≡ w.inside ++ es
   pub at : (b : ℕ) (x : Neighbour) → slice_index_or w.neighbours b None ≡ Some x → NowAt n.own b es frames x w'.neighbours
   pub alone : (b : ℕ) → slice_index_or w.neighbours b None ≡ None → slice_index_or w'.neighbours b None ≡ None
   pub delivered : (b : ℕ) → filter (is_delivered_from b) es ≡ filter (is_delivered_from b) given
+  pub heard : (b : ℕ) → filter (is_cast_from b) es ≡ filter (is_cast_from b) given
+  pub uncast : (b : ℕ) → filter (is_cast_for b) es ≡ []
   pub inside : IsInside es
   pub placed : All (IsPlaced n) es
   pub routed : All (IsRouted n) frames
+  pub unsent : casts_in frames ≡ []
   pub stand : StandFor n w'.neighbours
 
 runs_then : (n : NodeState) (w v u : Work) (es es' given given' : List Entry) (fs fs' : List Outgoing) → Runs n w es given fs v → Runs n v es' given' fs' u → Runs n w (es ++ es') (given ++ given') (fs ++ fs') u
@@ -128,9 +136,14 @@ runs_then n w v u es es' given given' fs fs' h k = record {
   delivered = λ b.
       both_parts (is_delivered_from b) es es' (filter (is_delivered_from b) given) (filter (is_delivered_from b) given') (h.delivered b) (k.delivered b)
       ∙ sym (filter-append (is_delivered_from b) given given');
+  heard = λ b.
+      both_parts (is_cast_from b) es es' (filter (is_cast_from b) given) (filter (is_cast_from b) given') (h.heard b) (k.heard b)
+      ∙ sym (filter-append (is_cast_from b) given given');
+  uncast = λ b. both_parts (is_cast_for b) es es' [] [] (h.uncast b) (k.uncast b);
   inside = inside_both es es' h.inside k.inside;
   placed = All-append (IsPlaced n) es es' h.placed k.placed;
   routed = All-append (IsRouted n) fs fs' h.routed k.routed;
+  unsent = filter-append is_cast_out fs fs' ∙ ap (λ gs. gs ++ casts_in fs') h.unsent ∙ k.unsent;
   stand = k.stand;
 }
 

@@ -1,19 +1,21 @@
 -- Of the frames of a upkeep those to one node are those of that neighbour.
 use Rattle.std.proofs.Common.{◌≡◌, ◌≢◌, ◌&&◌, ℕ, zero, suc, ◌+◌, ◌<◌, true, false, List, [], ◌∷◌, ◌++◌, Option, Some, None, map, slice_index_or, refl, ap, ◌∙◌, subst, append-nil, arith}
-use Rattle.std.specs.List.{flat_map}
+use Rattle.std.specs.List.{All, flat_map}
 use Rattle.std.proofs.lemmas.Bool.Decides.{nat_tests}
 use Rattle.std.proofs.lemmas.List.Elements.{filter-append}
-use Rattle.tipc_types.specs.Address.{node_word}
+use Rattle.tipc_types.specs.Address.{IsNodeWord, node_word}
 use Rattle.tipc_types.specs.declared.identity.To.{To}
 use Rattle.tipc_types.specs.declared.identity.To.TheVariants as to
 use Rattle.tipc_outside.specs.declared.outgoing.Outgoing.{Outgoing}
 use Rattle.tipc_header.specs.Frames.{is_of_link}
 use Rattle.tipc_node.specs.declared.neighbours.Upkeep.{Upkeep}
 use Rattle.tipc_broadcast.specs.Deeds.{deeds_frames}
+use Rattle.tipc_broadcast.specs.Pieces.{IsOfBroadcast}
 use Rattle.tipc_node.specs.Neighbours.{Done}
 use Rattle.tipc_node.specs.Discovery.{requests_by, upkeep_frames}
 use Rattle.tipc_node.specs.Nodes.{NodeState, after_all, after_one, numbered_all, numbered_one, parts_of, states_all, states_one, upkeep_deeds}
-use Rattle.tipc_node.specs.Turns.{frames_to, is_out_to, is_to}
+use Rattle.tipc_node.specs.Turns.{casts_in, frames_to, is_out_to, is_to}
+use Rattle.tipc_node.proofs.turns.CastFrames.{casts_all, casts_both, casts_to_none, links_uncast, requests_uncast}
 use Rattle.tipc_pair.proofs.turns.Addressing.{AreFor, IsFor}
 use Rattle.tipc_node.proofs.turns.Entries.{AreForEach, numbered_are, part_of, states_are}
 use Rattle.tipc_node.proofs.turns.Discovery.{requests_to}
@@ -82,10 +84,10 @@ part_numbered : (o : Option Done) → part_of (λ x. x.numbered) o ≡ numbered_
 part_numbered None = refl
 part_numbered (Some x) = refl
 
--- those of broadcast packets are none
-pub shares : (d : Upkeep) (n : NodeState) (b : ℕ) → deeds_frames (upkeep_deeds d n) n.casting ≡ [] → AreForEach (parts_of d n)
+-- those of broadcast packets are for nobody alone
+pub shares : (d : Upkeep) (n : NodeState) (b : ℕ) → All (IsOfBroadcast n.boot) (deeds_frames (upkeep_deeds d n) n.casting) → AreForEach (parts_of d n)
     → frames_to b (upkeep_frames d n) ≡ states_one (slice_index_or (parts_of d n) b None) ++ numbered_one (slice_index_or (parts_of d n) b None)
-shares d n b none all =
+shares d n b cast all =
     let os = parts_of d n in
     let part = slice_index_or os b None in
     let casts = deeds_frames (upkeep_deeds d n) n.casting in
@@ -93,8 +95,32 @@ shares d n b none all =
     let two = ap (frames_to b) (numbered_are os) ∙ part_shares (λ x. x.numbered) os b (λ k x is. (all k x is).1) ∙ part_numbered part in
     let first : frames_to b (states_all os ++ requests_by d n) ≡ states_one part =
     filter-append (is_out_to b) (states_all os) (requests_by d n) ∙ ap (λ zs. zs ++ frames_to b (requests_by d n)) one ∙ ap (λ zs. states_one part ++ zs) (requests_to d n b) ∙ append-nil (states_one part) in
-    let behind : frames_to b (numbered_all os ++ casts) ≡ numbered_one part = ap (λ fs. frames_to b (numbered_all os ++ fs)) none ∙ ap (frames_to b) (append-nil (numbered_all os)) ∙ two in
+    let behind : frames_to b (numbered_all os ++ casts) ≡ numbered_one part =
+    filter-append (is_out_to b) (numbered_all os) casts ∙ ap (λ zs. zs ++ frames_to b casts) two ∙ ap (λ zs. numbered_one part ++ zs) (casts_to_none n.boot b casts cast) ∙ append-nil (numbered_one part) in
     filter-append (is_out_to b) (states_all os ++ requests_by d n) (numbered_all os ++ casts) ∙ ap (λ zs. zs ++ frames_to b (numbered_all os ++ casts)) first ∙ ap (λ zs. states_one part ++ zs) behind
+
+-- ---- the frames of the broadcast
+
+-- none is among those of one part of what the neighbours send
+part_uncast : (part : Done → List Outgoing) (first : ℕ) (xs : List (Option Done)) → AreShares part first xs → casts_in (flat_map (part_of part) xs) ≡ []
+part_uncast part first [] all = refl
+part_uncast part first (x ∷ xs) all =
+    casts_both (part_of part x) (flat_map (part_of part) xs) ∙ ap (λ fs. fs ++ casts_in (flat_map (part_of part) xs)) (links_uncast (node_word first) (part_of part x) (one_for part first x xs all))
+    ∙ part_uncast part (first + 1) xs (later_shares part first x xs all)
+
+-- so those of a upkeep are those of its deeds
+pub upkeep_casts : (d : Upkeep) (n : NodeState) → IsNodeWord n.own → All (IsOfBroadcast n.boot) (deeds_frames (upkeep_deeds d n) n.casting) → AreForEach (parts_of d n)
+    → casts_in (upkeep_frames d n) ≡ deeds_frames (upkeep_deeds d n) n.casting
+upkeep_casts d n node cast all =
+    let os = parts_of d n in
+    let casts = deeds_frames (upkeep_deeds d n) n.casting in
+    let each : (part : Done → List Outgoing) → ((b : ℕ) (x : Done) → slice_index_or os b None ≡ Some x → AreFor (node_word b) (part x)) → casts_in (flat_map (part_of part) os) ≡ [] =
+    λ part all. part_uncast part 0 os (λ k x is. subst (λ j. AreFor (node_word j) (part x)) (omega arith) (all k x is)) in
+    let one : casts_in (states_all os) ≡ [] = ap casts_in (states_are os) ∙ each (λ x. x.states) (λ b x is. (all b x is).0) in
+    let two : casts_in (numbered_all os) ≡ [] = ap casts_in (numbered_are os) ∙ each (λ x. x.numbered) (λ b x is. (all b x is).1) in
+    let first : casts_in (states_all os ++ requests_by d n) ≡ [] = casts_both (states_all os) (requests_by d n) ∙ ap (λ fs. fs ++ casts_in (requests_by d n)) one ∙ requests_uncast d n node in
+    let behind : casts_in (numbered_all os ++ casts) ≡ casts = casts_both (numbered_all os) casts ∙ ap (λ fs. fs ++ casts_in casts) two ∙ casts_all n.boot casts cast in
+    casts_both (states_all os ++ requests_by d n) (numbered_all os ++ casts) ∙ ap (λ fs. fs ++ casts_in (numbered_all os ++ casts)) first ∙ behind
 
 -- ---- the neighbours after a upkeep
 

@@ -26,10 +26,10 @@ use Rattle.tipc_pair.proofs.turns.PairTells.{Means, Story, Tells, began, contact
 use Rattle.tipc_node.specs.declared.neighbours.Upkeep.{Upkeep}
 use Rattle.tipc_node.specs.declared.neighbours.Upkeep.TheVariants as upkeep
 use Rattle.tipc_pair.proofs.turns.Moves.{AreSo, IsSo, contact_by, contact_is_some}
-use Rattle.tipc_node.specs.Casting.{CanBeTold, IsContactChange, IsOfNode, arrival_deeds, bearer_deeds, boot_of_contact, contact_deeds, deed_of, deed_told, deeds_told, is_joined_by, state_deeds}
+use Rattle.tipc_node.specs.Casting.{CanBeTold, IsContactChange, IsOfNode, arrival_deeds, bearer_deeds, boot_of_contact, contact_deeds, deed_of, is_joined_by, state_deeds}
 use Rattle.tipc_node.specs.declared.neighbours.Neighbour.{Neighbour}
 use Rattle.tipc_node.specs.Neighbours.{Done, IsOnBearer}
-use Rattle.tipc_node.specs.Nodes.{NodeState, acquaintance, change_entries, change_entry, deeds_all, deeds_one, is_met, mended_by, neighbour_of, pair_with, parts_of, upkeep_deeds, with_mended_on}
+use Rattle.tipc_node.specs.Nodes.{NodeState, acquaintance, deeds_all, deeds_one, is_met, mended_by, neighbour_of, pair_with, parts_of, upkeep_deeds, with_mended_on}
 use Rattle.tipc_node.specs.Turns.{HaveJoined}
 
 -- ---- a peer has joined where there is a boot of it
@@ -84,11 +84,6 @@ other_joined a b changes v apart =
 pub state_apart : (a b : ℕ) (stated : Option BroadcastState) → filter (is_contact_of (node_word b)) (state_deeds a stated) ≡ []
 state_apart a b None = refl
 state_apart a b (Some seen) = refl
-
-pub bearers_apart : (b : ℕ) (d : Upkeep) → filter (is_contact_of (node_word b)) (bearer_deeds d) ≡ []
-bearers_apart b (upkeep.Mend bearer) = refl
-bearers_apart b (upkeep.Cut bearer) = refl
-bearers_apart b upkeep.Tick = refl
 
 -- ---- nothing is sent
 
@@ -229,18 +224,6 @@ deeds_filtered b (change ∷ changes) = by (deeds_filtered b changes) (is_of_con
         → contact_deeds b (change ∷ changes) ≡ contact_deeds b (if t then change ∷ filter is_of_contact changes else filter is_of_contact changes)
     by later true is = ap (λ ds. deed_of b change ++ ds) later
     by later false is = (λ i. one_change b change is i ++ later i)
-
--- ---- what a step tells
-
-pub told_one : (b : ℕ) (change : Transition) → deed_told (change_entry b change) ≡ deed_of b change
-told_one b (LinkUp bearer own theirs) = refl
-told_one b (LinkDown bearer cause shown) = refl
-told_one b (ContactUp contact) = refl
-told_one b (ContactDown contact states shown) = refl
-
-pub told_changes : (b : ℕ) (changes : List Transition) → deeds_told (change_entries b changes) ≡ contact_deeds b changes
-told_changes b [] = refl
-told_changes b (change ∷ changes) = (λ i. told_one b change i ++ told_changes b changes i)
 
 -- ---- who is in contact
 

@@ -4,7 +4,7 @@ use Rattle.std.specs.Prelude.{OnOk, fold, option_map}
 use Rattle.std.proofs.Math.ListN.{get_or}
 use Rattle.std.proofs.lemmas.List.{drop_more}
 use Rattle.std.specs.List.{list_all}
-use Rattle.tipc_types.specs.declared.message_forms.Flow.TheVariants.{Zero}
+use Rattle.tipc_types.specs.declared.message_forms.Flow.{Flow}
 use Rattle.tipc_types.specs.Address.{node_word}
 use Rattle.tipc_types.specs.declared.message_forms.Item.{Item}
 use Rattle.tipc_types.specs.declared.message_forms.Message.{Message}
@@ -24,7 +24,7 @@ use Rattle.tipc_sockets.specs.Telling.{after_entry, is_payload}
 use Rattle.tipc_sockets.proofs.Learning.{IsApplying, fits_not, told_from}
 use Rattle.tipc_node.specs.declared.frames.Delivery.{Delivery}
 use Rattle.tipc_node.specs.Hearings.{is_plain, AllDelivered, Delivered, Settled, TookIn}
-use Rattle.tipc_node.specs.Messages.{message_in}
+use Rattle.tipc_node.specs.Messages.{message_in_flow}
 use Rattle.tipc_node.specs.Nodes.{deliveries_of, delivered_by, entries_in}
 use Rattle.tipc_node.specs.Works.{DeliversTo, Work, noted, with_items, work_of}
 use Rattle.tipc_node.specs.Works.DeliversAll.{none_left, one_more}
@@ -52,15 +52,15 @@ plain_note s (entry.Cancelled number) plain = absurd cc
 plain_note s (entry.TimedOut number) plain = absurd cc
 plain_note s (entry.Answered caller call answer) plain = absurd cc
 
-plain_message : (peer : ℕ) (contact : ℕ × ℕ) (m : Option Message) (by : List ℕ) → is_plain (delivered_by Zero peer contact m by) ≡ true
-plain_message peer contact None by = refl
-plain_message peer contact (Some m) by = refl
+plain_message : (flow : Flow) (peer : ℕ) (contact : ℕ × ℕ) (m : Option Message) (by : List ℕ) → is_plain (delivered_by flow peer contact m by) ≡ true
+plain_message flow peer contact None by = refl
+plain_message flow peer contact (Some m) by = refl
 
-pub all_plain : (peer : ℕ) (contact : ℕ × ℕ) (opened : List Opened) → list_all is_plain (entries_in (deliveries_of Zero peer contact opened)) ≡ true
-all_plain peer contact [] = refl
-all_plain peer contact (Passed place ∷ opened) = all_plain peer contact opened
-all_plain peer contact (Whole packet by ∷ opened) =
-    rw (plain_message peer contact (message_in packet) by) (all_plain peer contact opened)
+pub all_plain : (flow : Flow) (peer : ℕ) (contact : ℕ × ℕ) (opened : List Opened) → list_all is_plain (entries_in (deliveries_of flow peer contact opened)) ≡ true
+all_plain flow peer contact [] = refl
+all_plain flow peer contact (Passed place ∷ opened) = all_plain flow peer contact opened
+all_plain flow peer contact (Whole packet by ∷ opened) =
+    rw (plain_message flow peer contact (message_in_flow flow packet) by) (all_plain flow peer contact opened)
 
 -- ---- one message
 

@@ -15,7 +15,7 @@ use Rattle.tipc_pair.specs.PairTurns.{Outset, made_near, quietly, seen_as}
 use Rattle.tipc_pair.specs.PairTurns.Opening.{hears}
 use Rattle.tipc_pair.proofs.Facings.{facing_back}
 use Rattle.tipc_node.specs.declared.neighbours.Neighbour.{Neighbour}
-use Rattle.tipc_node.specs.Neighbours.{HearsAt, course_of, heard_neighbour, making, with_pair}
+use Rattle.tipc_node.specs.Neighbours.{HearsAt, casts_after, course_of, heard_neighbour, making}
 use Rattle.tipc_header.specs.declared.packet.Header.{Header}
 use Rattle.tipc_header.specs.declared.packet.Header.TheVariants as header
 use Rattle.tipc_node.specs.declared.neighbours.Upkeep.{Upkeep}
@@ -78,8 +78,12 @@ abbrev pub HasTaken : Neighbour → (bearer es er : ℕ) → Fields → ℕ → 
 HasTaken x bearer es er p by shown given changes y box box' =
     (o : Outset) × HearsAt x bearer es er p by shown o × (o.given ≡ given) × (o.course.changes ≡ changes) × (y ≡ heard_neighbour x o) × Adds box box' (sent_in o.course)
 
+-- the neighbour where that became of its pair
+abbrev pub moved : Neighbour → PairEnds → List Transition → Neighbour
+moved x pair changes = record { pair = pair; casts = casts_after x.casts changes }
+
 pub takes : (x : Neighbour) (bearer es er : ℕ) (p : Fields) (by : ℕ) (shown : BroadcastState) (outcome given : PairOutcome) (changes : List Transition) (now : PairEnds) (box box' : Out)
-    → x.pair.bearer ≡ 0 → outcome ≡ given → HasCommitted x bearer es er p by shown outcome changes now box box' → HasTaken x bearer es er p by shown given changes (with_pair x now) box box'
+    → x.pair.bearer ≡ 0 → outcome ≡ given → HasCommitted x bearer es er p by shown outcome changes now box box' → HasTaken x bearer es er p by shown given changes (moved x now changes) box box'
 takes x bearer es er p by shown outcome given changes now box box' first same h =
     let c = h.0 in
     let arrives : Arrives (facing bearer x.pair) es er p by shown c given = subst (λ g. Arrives (facing bearer x.pair) es er p by shown c g) same h.1 in
@@ -88,7 +92,7 @@ takes x bearer es er p by shown outcome given changes now box box' first same h 
       (c, given, arrives, refl),
       refl,
       sym h.3,
-      ap (with_pair x) pair,
+      (λ i. moved x (pair i) (h.3 i)),
       h.4,
     )
 
@@ -111,7 +115,7 @@ taken_once x bearer es er p by shown given changes y box box' sound h is =
 -- ---- what the broadcast link is told
 
 -- a STATE is taken only where there is contact then
-state_met : (x : Neighbour) (bearer es er : ℕ) (p : Fields) (by : ℕ) (shown : BroadcastState) (o : Outset) → x.pair.bearer ≤ 1 → bearer ≤ 1 → HearsAt x bearer es er p by shown o
+pub state_met : (x : Neighbour) (bearer es er : ℕ) (p : Fields) (by : ℕ) (shown : BroadcastState) (o : Outset) → x.pair.bearer ≤ 1 → bearer ≤ 1 → HearsAt x bearer es er p by shown o
     → (said : Header) (given : PairOutcome) → p.header ≡ said → o.given ≡ given → is_some (stated_in said given) ≡ true → in_contact o.course.pair ≡ true
 state_met x bearer es er p by shown o two one heard (header.State said) (PairOutcome.Took opened) is took some =
     let first = state_heard_first x.pair bearer es er p by shown o opened said two one is heard took in

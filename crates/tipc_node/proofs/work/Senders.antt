@@ -46,15 +46,15 @@ passes_discovery Finds said bearer place passes is = ours (is_of_network said) p
 passes_discovery Links said bearer place passes is = absurd cc
 passes_discovery Casts said bearer place passes is = absurd cc
 
--- and each broadcast packet is stopped
-pub passes_no_cast : (kind : FrameKind) (said : Header) (bearer : ℕ) (place : Option Neighbour) → stop_by_kind kind said bearer place ≡ None → kind ≡ Casts → ⊥
-passes_no_cast Casts said bearer place passes is = stopped (is_some place) passes
+-- and a broadcast packet is of a peer that is known
+pub passes_cast : (kind : FrameKind) (said : Header) (bearer : ℕ) (place : Option Neighbour) → stop_by_kind kind said bearer place ≡ None → kind ≡ Casts → is_some place ≡ true
+passes_cast Casts said bearer place passes is = known (is_some place) passes
   where
-    stopped : (b : Bool) → (if b then Some why.Epoch else Some why.Unknown) ≡ None → ⊥
-    stopped true none = cc
-    stopped false none = cc
-passes_no_cast Links said bearer place passes is = cc
-passes_no_cast Finds said bearer place passes is = cc
+    known : (b : Bool) → (if b then None else Some why.Unknown) ≡ None → b ≡ true
+    known true none = refl
+    known false none = absurd cc
+passes_cast Links said bearer place passes is = absurd cc
+passes_cast Finds said bearer place passes is = absurd cc
 
 -- ---- the sender
 
@@ -98,9 +98,3 @@ pub sender_other : (n : NodeState) (bearer : ℕ) (bytes : List ℕ) (peer first
 sender_other n bearer bytes peer first second p due passes =
     let word = sender_word n bytes bearer peer first second p due in
     ap (λ k. k == n.own) (sym word) ∙ isnt_own n.own (word_at 3 (drop 16 bytes)) (passes_kind n.own n.neighbours bearer (word_at 3 (drop 16 bytes)) (kind_in bytes) (fields_at (drop 16 bytes)).header (passes_sender n.own n.mended n.neighbours bearer bytes passes)).0
-
--- a broadcast packet is stopped
-pub no_cast : (n : NodeState) (bearer : ℕ) (bytes : List ℕ) → stop_of n bearer bytes ≡ None → kind_in bytes ≡ Casts → ⊥
-no_cast n bearer bytes passes is =
-    passes_no_cast (kind_in bytes) (fields_at (drop 16 bytes)).header bearer _
-    (passes_kind n.own n.neighbours bearer (word_at 3 (drop 16 bytes)) (kind_in bytes) (fields_at (drop 16 bytes)).header (passes_sender n.own n.mended n.neighbours bearer bytes passes)).1 is

@@ -2,7 +2,9 @@
 use Rattle.std.proofs.Common.{◌≡◌, ◌<◌, ◌≤◌, ◌+◌, ◌*◌, ℕ, true, false, List, [], ◌∷◌, Some, Result, Ok, Err, length, nat_le, refl, sym, ap, ◌∙◌, subst, arith}
 use Rattle.std.specs.Prelude.{All, IfOk, slice_index_or}
 use Rattle.std.proofs.lemmas.Bool.Decides.{nat_tests}
+use Rattle.std.proofs.lemmas.List.{length-map}
 use Rattle.std.proofs.lemmas.List.Elements.{All-map}
+use Rattle.tipc_types.specs.Limits.{most_packet_bytes}
 use Rattle.tipc_types.specs.declared.message_forms.Form.TheVariants as form
 use Rattle.tipc_types.specs.declared.message_forms.Message.{Message}
 use Rattle.tipc_types.specs.declared.message_forms.Message.TheVariants as message
@@ -16,14 +18,14 @@ use Rattle.tipc_message.specs.Wire.{items_packet, message_of, packet_of, payload
 use Rattle.tipc_bundle.specs.Bundles.{may_stand_inside}
 use Rattle.tipc_tunnel.specs.Tunnels.{may_stand_in_tunnel as may_be_wrapped}
 use Rattle.tipc_fragments.specs.Cutting.{Piece, fragment_fields as piece_packet, packets_of, pieces_of}
-use Rattle.tipc_fragments.proofs.CutLaws.{length-packet, sent_fits}
+use Rattle.tipc_fragments.proofs.CutLaws.{length-packet, length-pieces_of, packets_are_short, sent_fits}
 use Rattle.tipc_reassembly.specs.Slots.{IsCut}
 use Rattle.tipc_link.specs.Sessions.{IsWaiting}
 use Rattle.tipc_link.proofs.JoinLaws.{fragment_waits, inner_waits}
 use Rattle.tipc_pair.specs.Messages.{pieces_for}
 use Rattle.tipc_pair.specs.Runs.{IsListed, plain}
 use Rattle.tipc_pair.proofs.Pieces.{All-one, pieces_cut}
-use Rattle.tipc_node.specs.Messages.{IsSendable, bytes_of, spelled}
+use Rattle.tipc_node.specs.Messages.{ArePieces, IsSendable, bytes_of, spelled}
 
 -- these bytes spell the packet of a message that a node of this address sends, and it is read again from that
 abbrev pub IsSpelled : ℕ → Message → List ℕ → Type 0
@@ -129,3 +131,32 @@ many_sendable own m bytes (Err e) s = tt
 pub many_listed : {E : Type 0} (own : ℕ) (m : Message) (bytes given : List ℕ) (r : Result (List (List ℕ)) E) → IsSpelled own m bytes → given ≡ bytes → IfOk r (λ packets. packets ≡ packets_of given) → IfOk r (All IsListed)
 many_listed own m bytes given (Ok packets) s same is = subst (All IsListed) (sym is) (packets_listed given (spelled_most own m bytes given s same))
 many_listed own m bytes given (Err e) s same is = tt
+
+-- ---- as a broadcast link asks of them
+
+pub one_cast : (bytes : List ℕ) (pieces : List (List ℕ)) → 24 ≤ length bytes → length bytes < 1453 → pieces ≡ bytes ∷ [] → ArePieces pieces
+one_cast bytes pieces long short is = subst ArePieces (sym is) (record {
+  long = All-one (λ piece. 16 ≤ length piece) bytes (omega (arith, long));
+  short = All-one (λ piece. length piece ≤ most_packet_bytes) bytes (omega (arith, short));
+  few = omega arith;
+})
+
+packet_long : (piece : Piece) → 16 ≤ length (spelling (piece_packet piece))
+packet_long piece = omega (arith, length-packet piece)
+
+packets_few : (m : List ℕ) → length m ≤ 66044 → length (packets_of m) ≤ 47
+packets_few m most =
+    let count = length-pieces_of m in
+    let same = length-map (pieces_of m) (λ p. spelling (piece_packet p)) in
+    omega (arith, count, same, most)
+
+packets_cast : (m : List ℕ) → length m ≤ 66044 → ArePieces (packets_of m)
+packets_cast m most = record {
+  long = All-map (λ packet. 16 ≤ length packet) (λ p. spelling (piece_packet p)) (pieces_of m) (λ k d within. packet_long (slice_index_or (pieces_of m) k d));
+  short = packets_are_short m;
+  few = packets_few m most;
+}
+
+pub many_cast : {E : Type 0} (own : ℕ) (m : Message) (bytes given : List ℕ) (r : Result (List (List ℕ)) E) → IsSpelled own m bytes → given ≡ bytes → IfOk r (λ packets. packets ≡ packets_of given) → IfOk r ArePieces
+many_cast own m bytes given (Ok packets) s same is = subst ArePieces (sym is) (packets_cast given (spelled_most own m bytes given s same))
+many_cast own m bytes given (Err e) s same is = tt

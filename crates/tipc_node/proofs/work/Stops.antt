@@ -1,5 +1,5 @@
 -- Why a frame is stopped.
-use Rattle.std.proofs.Common.{◌≡◌, ◌⊎◌, ℕ, ◌-◌, ◌<◌, ◌≤◌, ◌==◌, ◌&&◌, Bool, true, false, List, Option, Some, None, length, drop, refl, sym, ap, ◌∙◌, subst, arith}
+use Rattle.std.proofs.Common.{◌≡◌, ◌⊎◌, ℕ, ◌-◌, ◌<◌, ◌≤◌, ◌==◌, ◌&&◌, ◌^◌, nat_le, Bool, true, false, List, Option, Some, None, length, drop, refl, sym, ap, ◌∙◌, subst, arith}
 use Rattle.std.specs.Prelude.{if◌then◌else◌, is_some, slice_index_or}
 use Rattle.std.proofs.lemmas.Bool.Decides.{nat_tests}
 use Rattle.std.proofs.Math.Seq.{drop-append_seam}
@@ -7,7 +7,9 @@ use Rattle.tipc_types.specs.Address.{node_word}
 use Rattle.tipc_types.specs.declared.link_words.Why.TheVariants as why
 use Rattle.tipc_header.specs.declared.fault.HeaderFault.{HeaderFault}
 use Rattle.tipc_header.specs.declared.frames.FrameKind.{FrameKind}
+use Rattle.tipc_header.specs.declared.frames.FrameKind.TheVariants.{Casts, Links}
 use Rattle.tipc_header.specs.declared.packet.Header.{Header}
+use Rattle.tipc_header.specs.declared.packet.Header.TheVariants as header
 use Rattle.tipc_header.specs.Faults.{fault_of, number_of}
 use Rattle.tipc_header.specs.Frames.{envelope, first_of, frame_of, kind_in, kind_of}
 use Rattle.tipc_header.specs.Reading.{fields_at, word_at}
@@ -104,3 +106,17 @@ mended_two mended bearer is = by (bearer == 0) (bearer == 1) refl refl is
 pub end_known : (bearer : ℕ) (place : Option Neighbour) → is_some (end_with bearer place) ≡ true → is_some place ≡ true
 end_known bearer None there = there
 end_known bearer (Some x) there = refl
+
+-- a broadcast packet comes under a boot number
+low_number : (first : ℕ) → (if nat_le 4294967296 first then Links else Casts) ≡ Casts → first < 2 ^ 32
+low_number first is = by (nat_le 4294967296 first) refl is
+  where
+    by : (b : Bool) → nat_le 4294967296 first ≡ b → (if b then Links else Casts) ≡ Casts → first < 2 ^ 32
+    by true high wrong = absurd cc
+    by false low right = grind (arith, nat_tests, low)
+
+pub cast_low : (first : ℕ) (h : Header) → kind_of first h ≡ Casts → first < 2 ^ 32
+cast_low first (header.Payload x) is = low_number first is
+cast_low first (header.Fragmenter x) is = low_number first is
+cast_low first (header.Discovery x) is = absurd cc
+cast_low first other is = absurd cc

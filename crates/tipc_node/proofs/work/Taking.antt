@@ -32,6 +32,7 @@ use Rattle.tipc_node.specs.Nodes.{NodeState, change_entries, entries_in, is_chan
 use Rattle.tipc_node.specs.Sure.{all_wait, messages_in, told_in, with_all_waiting}
 use Rattle.tipc_node.specs.Works.{Work, concluded, work_of}
 use Rattle.tipc_node.proofs.work.Changes.{IsSameNode, change_changes, same_folded}
+use Rattle.tipc_types.specs.declared.message_forms.Flow.TheVariants.{Zero}
 use Rattle.tipc_node.proofs.work.Delivering.{all_plain}
 use Rattle.tipc_node.proofs.work.Greeting.{nobody_greeted}
 use Rattle.tipc_node.proofs.work.Heard.{heard_worked}
@@ -109,7 +110,7 @@ taken_all n v' by bytes x y z d h given inside messages sockets a b between c du
     let peer = d.peer in
     let ds = h.deliveries.items in
     let start = heard_at xs s peer y [] in
-    let all_plain_ones = ap (λ es. list_all is_plain (entries_in es)) prepared.deliveries ∙ all_plain peer (shown_contact prepared.neighbour.pair) (opened_in h.arriving.outcome) in
+    let all_plain_ones = ap (λ es. list_all is_plain (entries_in es)) prepared.deliveries ∙ all_plain Zero peer (shown_contact prepared.neighbour.pair) (opened_in h.arriving.outcome) in
     let delivered = sure_delivered n.own peer start ds between k.sure all_plain_ones in
     let queued = with_all_waiting s (messages_in ds) in
     let followed = quiet_followed n.own peer d.bearer given.stated n.casting v' xs s y z ds queued (told_in ds) b between c within refl delivered answered in
@@ -159,7 +160,7 @@ told_work neighbours sockets sockets' peer y changes empty empty' inside h =
 -- what was given is plain
 pub heard_plain : (x : Neighbour) (d : Due) (number : ℕ) (shown : BroadcastState) (y : Neighbour) (h : HeardPacket) (box box' : Out) → HasHeard x d number shown y h box box' → list_all is_plain (entries_in h.deliveries.items) ≡ true
 heard_plain x d number shown y h box box' heard =
-    ap (λ es. list_all is_plain (entries_in es)) heard.deliveries ∙ all_plain d.peer (shown_contact x.pair) (opened_in heard.out.given)
+    ap (λ es. list_all is_plain (entries_in es)) heard.deliveries ∙ all_plain Zero d.peer (shown_contact x.pair) (opened_in heard.out.given)
 
 -- the sockets are of the same node, and have the same ports
 pub worked_same : (own : ℕ) (v v' : Casting) (xs : List (Option Neighbour)) (s : SocketTable) (x : Neighbour) (d : Due) (number : ℕ) (answered : Arrival) (w' : Work) (box box' : Out) → Worked own v v' xs s x d number answered w' box box'

@@ -89,7 +89,7 @@ tellings_light withdrawal (p ∷ ps) =
 range_first : (a n k : ℕ) → k ≡ suc n → range_with_len a k ≡ a ∷ range_with_len (a + 1) n
 range_first a n k is = ap (range_with_len a) is
 
-range_last : (a n : ℕ) → range_with_len a (suc n) ≡ range_with_len a n ++ (a + n) ∷ []
+pub range_last : (a n : ℕ) → range_with_len a (suc n) ≡ range_with_len a n ++ (a + n) ∷ []
 range_last a zero = ap (λ k. k ∷ []) (sym (add-zero a))
 range_last a (suc n) =
     let same : a + 1 + n ≡ a + suc n = omega arith in

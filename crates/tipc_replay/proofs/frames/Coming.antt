@@ -1,6 +1,6 @@
 -- A frame that is heard was sent by the peer, and isn't too old.
 use Rattle.std.proofs.Common.{◌≡◌, ◌≢◌, ◌≤◌, ◌+◌, ℕ, zero, suc, true, List, [], Some, None, refl, length, sym, ap, ◌∙◌, subst, arith}
-use Rattle.std.specs.Prelude.{drop, slice_get}
+use Rattle.std.specs.Prelude.{Bool, drop, false, if◌then◌else◌, slice_get}
 use Rattle.std.proofs.lemmas.Bool.Decides.{nat_tests}
 use Rattle.std.proofs.lemmas.List.{drop_at, length-append}
 use Rattle.tipc_types.specs.Address.{node_word}
@@ -8,7 +8,9 @@ use Rattle.tipc_types.specs.declared.identity.Addr.{Addr}
 use Rattle.tipc_types.specs.declared.identity.To.TheVariants as to
 use Rattle.tipc_header.specs.Faults.{fault_of}
 use Rattle.tipc_header.specs.declared.frames.FrameKind.TheVariants.{Casts, Finds, Links}
-use Rattle.tipc_header.specs.Frames.{envelope, is_of_link, kind_in}
+use Rattle.tipc_header.specs.declared.packet.Header.{Header}
+use Rattle.tipc_header.specs.declared.packet.Header.TheVariants as header
+use Rattle.tipc_header.specs.Frames.{envelope, first_of, is_epoch, is_of_link, kind_in, kind_of}
 use Rattle.tipc_header.specs.Reading.{fields_at}
 use Rattle.tipc_header.specs.Spelling.{Fields, spelling}
 use Rattle.tipc_header.proofs.Again.{again, no_fault}
@@ -103,8 +105,32 @@ one_receiver s a bearer place f sound found kind_is = by flown.addressed
     by (of_discovery packet finds low receivers) = absurd (let wrong : Finds ≡ Links = sym finds ∙ kind_is in cc)
     by (of_broadcast packet casts all) = absurd (let wrong : Casts ≡ Links = sym casts ∙ kind_is in cc)
 
+not_link : (first : ℕ) (t : Bool) → is_epoch first ≡ t → (if t then Links else Casts) ≡ Casts → is_epoch first ≡ false
+not_link first false is kind = is
+not_link first true is kind = absurd (let wrong : Links ≡ Casts = kind in cc)
+
+-- a broadcast packet is under no epoch
+casts_low : (first : ℕ) (h : Header) → kind_of first h ≡ Casts → is_epoch first ≡ false
+casts_low first (header.Discovery discovery) is = absurd (let wrong : Finds ≡ Casts = is in cc)
+casts_low first (header.Payload payload) is = not_link first (is_epoch first) refl is
+casts_low first (header.Fragmenter fragment) is = not_link first (is_epoch first) refl is
+casts_low first other is = absurd (let wrong : Links ≡ Casts = is in cc)
+
+-- and came in a frame for all
+pub to_all_nodes : (s : Stage) (a bearer place : ℕ) (f : Sent) → IsSound s.members s.air → frame_for s.air a bearer place ≡ Some f → kind_in f.frame ≡ Casts → f.to ≡ to.All
+unfolding kind_in
+to_all_nodes s a bearer place f sound found kind_is = by flown.addressed
+  where
+    flown : IsAirborne f
+    flown = sound.frames bearer place f (placed s.air a bearer place f found).0
+
+    by : IsAddressed flown.from f.frame f.to → f.to ≡ to.All
+    by (of_a_link link other) = absurd (let wrong : true ≡ false = sym link ∙ casts_low (first_of f.frame) (fields_at (drop 16 f.frame)).header kind_is in cc)
+    by (of_discovery packet finds low receivers) = absurd (let wrong : Finds ≡ Casts = sym finds ∙ kind_is in cc)
+    by (of_broadcast packet casts all) = all
+
 -- a link packet came in a frame of a link
-from_peer : (s : Stage) (a bearer place : ℕ) (f : Sent) (peer es er : ℕ) (p : Fields) → IsSound s.members s.air → frame_for s.air a bearer place ≡ Some f → IsFrom peer f.frame es er p → kind_in f.frame ≡ Links → IsFromPeer s a bearer f peer
+pub from_peer : (s : Stage) (a bearer place : ℕ) (f : Sent) (peer es er : ℕ) (p : Fields) → IsSound s.members s.air → frame_for s.air a bearer place ≡ Some f → IsFrom peer f.frame es er p → kind_in f.frame ≡ Links → IsFromPeer s a bearer f peer
 from_peer s a bearer place f peer es er p sound found b kind_is = by flown.addressed
   where
     flown : IsAirborne f
@@ -139,7 +165,7 @@ comes s a bearer place f peer es er p sound there free b kind =
     let age = young s.members s.air a bearer place f there free in
     let fresh : is_traffic p.header ≡ true → IsYoung s.members f a peer bearer es er = λ traffic.
     young_session s.members f a peer bearer es er (spelling p) sent.from b.es_fits b.er_fits b.frame_is
-    (subst (λ n. n ≤ 30000) (age_is s.members f a bearer p sent.size (ap fault_of packet ∙ no_fault p b.fits) (ap fields_at packet ∙ again p b.fits) traffic) age) in
+    (let within = age_is s.members f a bearer p sent.size (ap fault_of packet ∙ no_fault p b.fits) (ap fields_at packet ∙ again p b.fits) kind traffic in omega (arith, within, age)) in
     record {
       place = sent.place;
       frame = as_frame bearer f;
@@ -152,6 +178,27 @@ comes s a bearer place f peer es er p sound there free b kind =
       own_fresh = λ traffic. (fresh traffic).receiver;
       peer_fresh = λ traffic. (fresh traffic).sender;
     }
+
+-- it is that frame which comes
+pub comes_as : (s : Stage) (a bearer place : ℕ) (f : Sent) (peer es er : ℕ) (p : Fields) → IsSound s.members s.air → frame_for s.air a bearer place ≡ Some f → unarrived s.members s.air a bearer place ≡ None → IsFrom peer f.frame es er p
+    → kind_in f.frame ≡ Links → (c : Comes (sight_in s a peer) (sight_in s peer a) bearer es er p) × (c.frame ≡ as_frame bearer f)
+unfolding comes
+comes_as s a bearer place f peer es er p sound there free b kind = (comes s a bearer place f peer es er p sound there free b kind, refl)
+
+-- and it is for the node
+pub for_node : (s : Stage) (a bearer place : ℕ) (f : Sent) → IsSound s.members s.air → frame_for s.air a bearer place ≡ Some f → kind_in f.frame ≡ Links → is_to a f.to ≡ true
+for_node s a bearer place f sound found kind_is = by flown.addressed
+  where
+    flown : IsAirborne f
+    flown = sound.frames bearer place f (placed s.air a bearer place f found).0
+
+    by : IsAddressed flown.from f.frame f.to → is_to a f.to ≡ true
+    by (of_a_link link other) =
+        let to_it : is_to other.receiver f.to ≡ true = ap (is_to other.receiver) other.to_is ∙ grind (arith, nat_tests) in
+        let here : other.receiver ≡ a = sym (same_receiver a other.receiver f.from f.to (placed s.air a bearer place f found).1 to_it) in
+        subst (λ n. is_to n f.to ≡ true) here to_it
+    by (of_discovery packet finds low receivers) = absurd (let wrong : Finds ≡ Links = sym finds ∙ kind_is in cc)
+    by (of_broadcast packet casts all) = absurd (let wrong : Casts ≡ Links = sym casts ∙ kind_is in cc)
 
 -- a link packet that arrives in a step at node a came out of the air of its bearer
 abbrev pub ComesOut : Stage → ℕ → EventNote → List ℕ → Type 0

@@ -24,7 +24,7 @@ use Rattle.tipc_replay.proofs.pairs.Pairings.{told_as}
 use Rattle.tipc_replay.proofs.InLists.{Stands, stands_either, stands_front, stands_left, stands_map, stands_mapped, stands_passed, stands_passing, stands_right}
 
 -- the number of the node that a frame is for
-receiver_is : (b : ℕ) (t : To) → is_to b t ≡ true → receiver_of t ≡ b
+pub receiver_is : (b : ℕ) (t : To) → is_to b t ≡ true → receiver_of t ≡ b
 receiver_is b (to.Node address) is = let word : address.word ≡ node_word b = eqb-true _ _ is in omega arith
 receiver_is b to.All is = absurd cc
 

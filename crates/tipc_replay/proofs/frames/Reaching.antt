@@ -8,8 +8,10 @@ use Rattle.tipc_types.specs.declared.identity.Addr.{Addr}
 use Rattle.tipc_types.specs.declared.identity.To.{To}
 use Rattle.tipc_types.specs.declared.identity.To.TheVariants as to
 use Rattle.tipc_types.specs.declared.node_calls.Answer.TheVariants as answer
+use Rattle.tipc_header.specs.declared.frames.FrameKind.TheVariants.{Links}
+use Rattle.tipc_header.specs.declared.packet.Header.{Header}
 use Rattle.tipc_header.specs.Faults.{fault_of}
-use Rattle.tipc_header.specs.Frames.{frame_of, is_of_link}
+use Rattle.tipc_header.specs.Frames.{frame_of, is_of_link, kind_in}
 use Rattle.tipc_header.specs.Reading.{fields_at}
 use Rattle.tipc_header.specs.Spelling.{Fields}
 use Rattle.tipc_link.specs.Links.{is_traffic}
@@ -20,7 +22,8 @@ use Rattle.tipc_replay.specs.declared.air.Sent.{Sent}
 use Rattle.tipc_node.specs.Turns.{is_to}
 use Rattle.tipc_replay.specs.Air.{as_frame, goes, sent_between, sent_on}
 use Rattle.tipc_replay.specs.Skies.{AirState, air_on}
-use Rattle.tipc_replay.specs.Due.{age_by_fault, age_of, frame_for, is_for, kept_for, session_age, stopped_by_age, unarrived}
+use Rattle.tipc_replay.specs.declared.flying.Aging.TheVariants as aging
+use Rattle.tipc_replay.specs.Due.{age_by, age_of, aging_by_fault, aging_by_header, aging_by_kind, aging_of, frame_for, is_for, is_state, kept_for, session_age, stopped_by_age, unarrived}
 use Rattle.tipc_replay.specs.States.{MemberState, count_at}
 use Rattle.tipc_replay.proofs.InLists.{Stands, stands_left, stands_map, stands_passing, stands_right}
 -- ---- the frame among those that its sender sent
@@ -79,27 +82,41 @@ pub young : (members : List (Option MemberState)) (air : AirState) (n bearer k :
 unfolding unarrived
 young members air n bearer k f there free = young_at members n bearer (frame_for air n bearer k) f there free
 
--- the age of a STATE or a numbered packet is that of its session
-pub age_is : (members : List (Option MemberState)) (f : Sent) (n bearer : ℕ) (p : Fields) → is_frame_size (length f.frame) ≡ true → fault_of (drop 16 f.frame) ≡ None → fields_at (drop 16 f.frame) ≡ p → is_traffic p.header ≡ true
-    → age_of members f n bearer ≡ session_age members f n bearer
+-- the age of a STATE or a numbered packet is at least that of its session
+traffic_age : (members : List (Option MemberState)) (f : Sent) (n bearer : ℕ) (h : Header) → is_traffic h ≡ true → session_age members f n bearer (es_of f.frame) (er_of f.frame) ≤ age_by members f n bearer (aging_by_header (es_of f.frame) (er_of f.frame) h)
+traffic_age members f n bearer h traffic = by (is_traffic h) traffic (is_state h)
+  where
+    by : (b : Bool) → b ≡ true → (c : Bool) → session_age members f n bearer (es_of f.frame) (er_of f.frame)
+        ≤ age_by members f n bearer (if b then (if c then aging.State (es_of f.frame) (er_of f.frame) else aging.Numbered (es_of f.frame) (er_of f.frame)) else aging.Never)
+    by true is true = grind arith
+    by true is false = grind arith
+    by false is c = absurd (let wrong : false ≡ true = is in cc)
+
+-- what the age of a sound link packet is counted by
+pub link_aging : (f : Sent) (p : Fields) → is_frame_size (length f.frame) ≡ true → fault_of (drop 16 f.frame) ≡ None → fields_at (drop 16 f.frame) ≡ p → kind_in f.frame ≡ Links → aging_of f.frame ≡ aging_by_header (es_of f.frame) (er_of f.frame) p.header
+unfolding aging_of
+link_aging f p size clear is kind =
+    ap (λ b. if b then aging_by_fault f.frame (fault_of (drop 16 f.frame)) else aging.Never) size
+    ∙ (ap (aging_by_fault f.frame) clear ∙ (ap (λ k. aging_by_kind f.frame k (fields_at (drop 16 f.frame)).header) kind ∙ ap (λ (q : Fields). aging_by_header (es_of f.frame) (er_of f.frame) q.header) is))
+
+pub age_is : (members : List (Option MemberState)) (f : Sent) (n bearer : ℕ) (p : Fields) → is_frame_size (length f.frame) ≡ true → fault_of (drop 16 f.frame) ≡ None → fields_at (drop 16 f.frame) ≡ p → kind_in f.frame ≡ Links → is_traffic p.header ≡ true
+    → session_age members f n bearer (es_of f.frame) (er_of f.frame) ≤ age_of members f n bearer
 unfolding age_of
-age_is members f n bearer p size clear is traffic =
-    let read : is_traffic (fields_at (drop 16 f.frame)).header ≡ true = ap (λ (q : Fields). is_traffic q.header) is ∙ traffic in
-    ap (λ b. if b then age_by_fault members f n bearer (fault_of (drop 16 f.frame)) else 0) size
-    ∙ ap (age_by_fault members f n bearer) clear ∙ ap (λ b. if b then session_age members f n bearer else 0) read
+age_is members f n bearer p size clear is kind traffic =
+    subst (λ c. session_age members f n bearer (es_of f.frame) (er_of f.frame) ≤ age_by members f n bearer c) (sym (link_aging f p size clear is kind)) (traffic_age members f n bearer p.header traffic)
 
 -- how many packets were numbered since, in each direction
 pub record IsYoung (members : List (Option MemberState)) (f : Sent) (a peer bearer es er : ℕ) : Type 0 where
   pub sender : count_at members peer a bearer es ≤ f.numbered + 30000
   pub receiver : count_at members a peer bearer er ≤ f.peer_numbered + 30000
 
-pub young_session : (members : List (Option MemberState)) (f : Sent) (a peer bearer es er : ℕ) (packet : List ℕ) → f.from.word ≡ node_word peer → es < 2 ^ 64 → er < 2 ^ 64 → f.frame ≡ frame_of es er packet → session_age members f a bearer ≤ 30000
+pub young_session : (members : List (Option MemberState)) (f : Sent) (a peer bearer es er : ℕ) (packet : List ℕ) → f.from.word ≡ node_word peer → es < 2 ^ 64 → er < 2 ^ 64 → f.frame ≡ frame_of es er packet → session_age members f a bearer (es_of f.frame) (er_of f.frame) ≤ 30000
     → IsYoung members f a peer bearer es er
 young_session members f a peer bearer es er packet from es_fits er_fits bytes few =
     let es_is : es_of f.frame ≡ es = ap (λ b. es_of b) bytes ∙ es_of-frame es er packet es_fits er_fits in
     let er_is : er_of f.frame ≡ er = ap (λ b. er_of b) bytes ∙ er_of-frame es er packet es_fits er_fits in
     let number = number_is f.from.word peer from in
-    let named : session_age members f a bearer ≡ max (count_at members peer a bearer es - f.numbered) (count_at members a peer bearer er - f.peer_numbered) =
+    let named : session_age members f a bearer (es_of f.frame) (er_of f.frame) ≡ max (count_at members peer a bearer es - f.numbered) (count_at members a peer bearer er - f.peer_numbered) =
     ap (λ n. max (count_at members n a bearer (es_of f.frame) - f.numbered) (count_at members a n bearer (er_of f.frame) - f.peer_numbered)) number
     ∙ ap (λ n. max (count_at members peer a bearer n - f.numbered) (count_at members a peer bearer (er_of f.frame) - f.peer_numbered)) es_is
     ∙ ap (λ n. max (count_at members peer a bearer es - f.numbered) (count_at members a peer bearer n - f.peer_numbered)) er_is in

@@ -62,7 +62,7 @@ all_come P met members a bearer (o ∷ os) all =
     one false rest here k f is = rest k f is
 
 -- so it is of the frames in the air after some came into it
-air_comes : (P : Sent → Type 0) (met : ℕ → Option (ℕ × ℕ)) (members : List (Option MemberState)) (old new : AirState) (a : ℕ) (frames : List Outgoing) (lost : Bool) → Leaves old new met members a frames lost → All (λ o. P (airborne met members a o)) frames
+pub air_comes : (P : Sent → Type 0) (met : ℕ → Option (ℕ × ℕ)) (members : List (Option MemberState)) (old new : AirState) (a : ℕ) (frames : List Outgoing) (lost : Bool) → Leaves old new met members a frames lost → All (λ o. P (airborne met members a o)) frames
     → ((bearer : ℕ) → Each P (air_on bearer old)) → (bearer : ℕ) → Each P (air_on bearer new)
 air_comes P met members old new a frames lost l all before bearer =
     subst (λ air. Each P (air_on bearer air)) (sym front.1) (by (bearer == 0) (bearer == 1) refl refl)

@@ -16,7 +16,7 @@ use Rattle.tipc_replay.specs.Skies.{AirState}
 use Rattle.tipc_replay.specs.Causes.{tick_of, BringsUp, HasTicked, IsTakenFrom, Seen}
 use Rattle.tipc_replay.specs.Lawful.{IsLawful, IsLawfulEntry}
 use Rattle.tipc_replay.specs.States.{MemberState}
-use Rattle.tipc_replay.specs.Watched.{AreTicked, AreTraced, IsWatched}
+use Rattle.tipc_replay.specs.Watched.{AreCastsTraced, AreTicked, AreTraced, IsWatched}
 use Rattle.tipc_replay.proofs.pairs.Pairings.{first_end, second_end}
 use Rattle.tipc_replay.proofs.journals.Parted.{AreParted}
 use Rattle.tipc_replay.proofs.journals.Stepping.{Arrives, Widens, journal_ticked, lawful_more, lawful_wider, one_more, ticked_more}
@@ -47,11 +47,12 @@ kept_of air m w = record {
   ticked = w.ticked;
 }
 
-pub watched_of : (air : AirState) (m : MemberState) → IsKept (seen_by air m) m.past m.node.journal (pair_in m.node) → AreTraced (seen_by air m) m.node.neighbours → IsWatched air m
-watched_of air m h traced = record {
+pub watched_of : (air : AirState) (m : MemberState) → IsKept (seen_by air m) m.past m.node.journal (pair_in m.node) → AreTraced (seen_by air m) m.node.neighbours → AreCastsTraced (seen_by air m) m.node → IsWatched air m
+watched_of air m h traced casts = record {
   lawful = λ k j there. one_more m.past m.node.journal j k (IsLawful (seen_by air m) j) there (λ old below. h.past_lawful k j old) (λ at same. subst (IsLawful (seen_by air m)) same h.lawful);
   ticked = h.ticked;
   traced = traced;
+  casts = casts;
 }
 
 -- the air and the arrivals grow

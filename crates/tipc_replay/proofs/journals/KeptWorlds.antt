@@ -2,18 +2,20 @@
 use Rattle.std.proofs.Common.{length-append, ◌≡◌, ◌≤◌, ◌+◌, ◌==◌, ℕ, Bool, true, false, List, [], ◌∷◌, ◌++◌, Option, Some, None, if◌then◌else◌, length, slice_get, slice_index_or, slice_set, refl, sym, ap, ◌∙◌, subst, inl, inr, eqb-true, get_or-set_same, get_or-set_other, arith}
 use Rattle.std.specs.Prelude.{option_and_then, option_map}
 use Rattle.std.proofs.lemmas.Bool.{cases_eq}
+use Rattle.tipc_types.specs.Address.{node_word}
 use Rattle.tipc_types.specs.declared.node_calls.Answer.{Answer}
 use Rattle.tipc_types.specs.declared.node_calls.By.{By}
 use Rattle.tipc_types.specs.declared.node_calls.EventNote.{EventNote}
 use Rattle.tipc_types.specs.declared.node_calls.EventNote.TheVariants as note
 use Rattle.tipc_outside.specs.declared.outgoing.Outgoing.{Outgoing}
+use Rattle.tipc_broadcast.specs.Casting.{booted}
 use Rattle.tipc_journal.specs.declared.entries.Entry.{Entry}
 use Rattle.tipc_journal.specs.Steps.{NodeStep}
 use Rattle.tipc_node.specs.declared.neighbours.Neighbour.{Neighbour}
 use Rattle.tipc_node.specs.Calls.{Performs}
 use Rattle.tipc_node.specs.Nodes.{NodeState, neighbour_of}
 use Rattle.tipc_node.specs.Telling.{IsTold}
-use Rattle.tipc_node.specs.Turns.{NodeTurn, pair_in}
+use Rattle.tipc_node.specs.Turns.{HaveJoined, NodeTurn, pair_in}
 use Rattle.tipc_replay.specs.declared.air.Arrived.{Arrived}
 use Rattle.tipc_replay.specs.declared.air.Sent.{Sent}
 use Rattle.tipc_replay.specs.declared.events.WorldEvent.{WorldEvent}
@@ -31,9 +33,14 @@ use Rattle.tipc_types.specs.Prefixes.{IsPrefixOf}
 use Rattle.tipc_pair.specs.Facing.{alone}
 use Rattle.tipc_replay.proofs.pairs.Standing.{after_number, neighbour_number}
 use Rattle.tipc_replay.specs.Steps.{Becomes, Happens, IsArrival, Stage, Turns}
+use Rattle.tipc_replay.specs.Castings.{AreCasting}
+use Rattle.tipc_replay.specs.Steady.{IsSteady}
 use Rattle.tipc_replay.specs.Watched.{AreTraced, AreWatched, IsWatched}
+use Rattle.tipc_replay.proofs.casts.CastGiven.{casts_brought}
+use Rattle.tipc_replay.proofs.casts.SteadyTurns.{CameOut}
+use Rattle.tipc_replay.proofs.journals.TurnCastsTraced.{AreCastsBrought, casts_traced_wider, fresh_casts_traced, turn_casts_spelled, turn_casts_traced}
 use Rattle.tipc_replay.proofs.pairs.Bringing.{are_brought}
-use Rattle.tipc_replay.proofs.frames.Coming.{ComesOut, nothing_out, one_receiver, spoken_to}
+use Rattle.tipc_replay.proofs.frames.Coming.{nothing_out, one_receiver, spoken_to, to_all_nodes}
 use Rattle.tipc_replay.proofs.Growing.{prefix_same}
 use Rattle.tipc_replay.proofs.journals.Kept.{IsKept, get_last, kept_of, kept_wider, restarted_kept, seen_by, started_kept, watched_of}
 use Rattle.tipc_replay.proofs.LookUps.{place_within}
@@ -74,6 +81,7 @@ traced_in air air' m longer w = traced_wider (seen_by air m) (seen_by air' m) m.
 pub watched_wider : (air air' : AirState) (m : MemberState) → GrowsAir air air' → IsWatched air m → IsWatched air' m
 watched_wider air air' m longer w =
     watched_of air' m (kept_wider (seen_by air m) (seen_by air' m) m.past m.node.journal (pair_in m.node) (air_widens air air' m longer) (kept_of air m w)) (traced_in air air' m longer w)
+    (casts_traced_wider (seen_by air m) (seen_by air' m) m.node (air_widens air air' m longer) w.casts)
 
 -- what a node keeps while the air grows
 kept_in : (air air' : AirState) (m : MemberState) → GrowsAir air air' → IsWatched air m → IsKept (seen_by air' m) m.past m.node.journal (pair_in m.node)
@@ -83,28 +91,33 @@ kept_in air air' m longer w = kept_wider (seen_by air m) (seen_by air' m) m.past
 
 -- a node took a turn while the air and its arrivals grew
 pub turn_watched : (s : Stage) (air' : AirState) (a : ℕ) (m m' : MemberState) (bytes : List ℕ) (step : NodeStep) (frames : List Outgoing) → IsSound s.members s.air → slice_index_or s.members a None ≡ Some m → GrowsAir s.air air' → IsPrefixOf m.arrivals m'.arrivals → m'.past ≡ m.past
-    → IsWatched s.air m → IsTold m.node → IsTold m'.node
-    → (t : NodeTurn m.node m'.node bytes step frames) → AreCarried (seen_by air' m') step bytes → TakesTunnels m.node step bytes → AreBrought a m.node m'.node bytes step frames t → IsWatched air' m'
-turn_watched s air' a m m' bytes step frames sound was longer more past w told told' t carried answers brings =
+    → IsWatched s.air m → IsTold m.node → IsTold m'.node → HaveJoined m.node
+    → (t : NodeTurn m.node m'.node bytes step frames) → AreCarried (seen_by air' m') step bytes → TakesTunnels m.node step bytes → AreBrought a m.node m'.node bytes step frames t → AreCasting s.members s.air → CameOut s a step.event bytes → IsWatched air' m'
+turn_watched s air' a m m' bytes step frames sound was longer more past w told told' joined t carried answers brings casting came =
+    let cast : AreCastsBrought m.node m'.node bytes step frames t = λ b h. (let peer = neighbour_number s.members s.air a b m sound was h.there in casts_brought s a m m' bytes step t.deeds b sound was came casting peer.0 peer.1 h) in
     let seen = seen_by air' m' in
     let grown : Widens (seen_by s.air m) seen = record { air = longer; arrivals = more } in
     let traced = traced_wider (seen_by s.air m) seen m.node.neighbours grown w.traced in
+    let casts = casts_traced_wider (seen_by s.air m) seen m.node grown w.casts in
     let kept = kept_wider (seen_by s.air m) seen m.past m.node.journal (pair_in m.node) grown (kept_of s.air m w) in
     watched_of air' m' (subst (λ js. IsKept seen js m'.node.journal (pair_in m'.node)) (sym past)
-    (turn_kept seen m.past a m.node m'.node bytes step frames t kept told told' carried answers (turn_spelled seen a m.node m'.node bytes step frames t traced carried brings) (λ b. neighbour_number s.members s.air a b m sound was)))
+    (turn_kept seen m.past a m.node m'.node bytes step frames t kept told told' carried answers (turn_spelled seen a m.node m'.node bytes step frames t traced carried brings)
+    joined (turn_casts_spelled seen m.node m'.node bytes step frames t casts carried cast) (λ b. neighbour_number s.members s.air a b m sound was)))
     (turn_traced seen a m.node m'.node bytes step frames t traced carried brings (λ b. after_number s.members s.air a b m m'.node bytes step frames sound was t))
+    (turn_casts_traced seen m.node m'.node bytes step frames t casts carried)
 
 -- an arrival isn't performed as a call
 never_arrives : (n n' : NodeState) (by : By) (call : EventNote) (frames : List Outgoing) (answered : Answer) → Performs n by call n' frames answered → (bearer number : ℕ) → call ≡ note.Arrive bearer number → ⊥
 never_arrives n n' by call frames answered h bearer number is = (subst (λ c. Performs n by c n' frames answered) is h).choice
 
-make_watched : (s : Stage) (air' : AirState) (a : ℕ) (by : By) (call : EventNote) (m m' : MemberState) (frames : List Outgoing) (answered : Answer) → IsSound s.members s.air → GrowsAir s.air air' → slice_index_or s.members a None ≡ Some m
+make_watched : (s : Stage) (air' : AirState) (a : ℕ) (by : By) (call : EventNote) (m m' : MemberState) (frames : List Outgoing) (answered : Answer) → IsSteady s.members s.air → GrowsAir s.air air' → slice_index_or s.members a None ≡ Some m
     → IsWatched s.air m → Makes by call m m' frames answered → IsWatched air' m'
-make_watched s air' a by call m m' frames answered sound longer was w h =
+make_watched s air' a by call m m' frames answered steady longer was w h =
     let step = made_step by call m m' frames answered h in
-    turn_watched s air' a m m' [] step frames sound was longer (prefix_same m.arrivals m'.arrivals (ap (λ (x : MemberState). x.arrivals) h.after)) (ap (λ (x : MemberState). x.past) h.after) w h.turn.told_before h.turn.told h.turn.turn
+    turn_watched s air' a m m' [] step frames steady.sound was longer (prefix_same m.arrivals m'.arrivals (ap (λ (x : MemberState). x.arrivals) h.after)) (ap (λ (x : MemberState). x.past) h.after) w h.turn.told_before h.turn.told h.turn.joined_before h.turn.turn
     (λ bearer number is. absurd (never_arrives m.node m'.node _ call frames answered h.performs bearer number is))
-    (λ bearer number place e is there tunnel. absurd (never_arrives m.node m'.node _ call frames answered h.performs bearer number is)) (are_brought s a m m' [] step frames sound was h.turn.turn (nothing_out s a _))
+    (λ bearer number place e is there tunnel. absurd (never_arrives m.node m'.node _ call frames answered h.performs bearer number is)) (are_brought s a m m' [] step frames steady.sound was h.turn.turn (nothing_out s a _))
+    steady.casts (λ bearer number is. absurd (never_arrives m.node m'.node _ call frames answered h.performs bearer number is))
 
 -- ---- an arrival
 
@@ -139,6 +152,7 @@ frame_carried s air' a bearer place f arrivals sound longer there =
       sender = spoken.sender;
       from = spoken.from;
       one = λ link. one_receiver s a bearer place f sound there link;
+      all = λ kind. to_all_nodes s a bearer place f sound there kind;
       es = spoken.said.es;
       er = spoken.said.er;
       packet = spoken.said.packet;
@@ -158,44 +172,49 @@ are_carried s air' a bearer place f arrivals arrivals' step sound longer there m
       ap length more ∙ length-append arrivals (last ∷ []) ∙ ap (λ k. k + 1) numbers,
     )
 
-meet_watched : (s : Stage) (air' : AirState) (a : ℕ) (by : By) (bearer place : ℕ) (f : Sent) (m m' : MemberState) (frames : List Outgoing) (answered : Answer) → IsSound s.members s.air → GrowsAir s.air air' → slice_index_or s.members a None ≡ Some m
-    → IsWatched s.air m → frame_for s.air a bearer place ≡ Some f → ComesOut s a (note.Arrive bearer (length m.arrivals)) f.frame → Meets by bearer place f.frame m m' frames answered → IsWatched air' m'
-meet_watched s air' a by bearer place f m m' frames answered sound longer was w there out h =
+meet_watched : (s : Stage) (air' : AirState) (a : ℕ) (by : By) (bearer place : ℕ) (f : Sent) (m m' : MemberState) (frames : List Outgoing) (answered : Answer) → IsSteady s.members s.air → GrowsAir s.air air' → slice_index_or s.members a None ≡ Some m
+    → IsWatched s.air m → frame_for s.air a bearer place ≡ Some f → unarrived s.members s.air a bearer place ≡ None → Meets by bearer place f.frame m m' frames answered → IsWatched air' m'
+meet_watched s air' a by bearer place f m m' frames answered steady longer was w there free h =
+    let sound = steady.sound in
     let step = met_step by bearer place f.frame m m' frames answered h in
     let more : m'.arrivals ≡ m.arrivals ++ record { bearer = bearer; frame = place } ∷ [] = ap (λ (x : MemberState). x.arrivals) h.after in
-    turn_watched s air' a m m' f.frame step frames sound was longer (record { bearer = bearer; frame = place } ∷ [], more) (ap (λ (x : MemberState). x.past) h.after) w h.turn.told_before h.turn.told h.turn.turn
+    turn_watched s air' a m m' f.frame step frames sound was longer (record { bearer = bearer; frame = place } ∷ [], more) (ap (λ (x : MemberState). x.past) h.after) w h.turn.told_before h.turn.told h.turn.joined_before h.turn.turn
     (are_carried s air' a bearer place f m.arrivals m'.arrivals step sound longer there more refl)
-    (arrival_takes m.node m'.node _ bearer (length m.arrivals) f.frame frames h.arrived h.turn.inside h.arrives h.turn.turn) (are_brought s a m m' f.frame step frames sound was h.turn.turn out)
+    (arrival_takes m.node m'.node _ bearer (length m.arrivals) f.frame frames h.arrived h.turn.inside h.arrives h.turn.turn)
+    (are_brought s a m m' f.frame step frames sound was h.turn.turn (comes_out s a bearer place f sound there free (length m.arrivals))) steady.casts
+    (λ k number is.
+    let same : bearer ≡ k = cc in
+    subst (λ j. (spot : ℕ) × (g : Sent) × (frame_for s.air a j spot ≡ Some g) × (unarrived s.members s.air a j spot ≡ None) × (f.frame ≡ g.frame)) same (place, f, there, free, refl))
 
 -- ---- a boot begins
 
 -- a node whose parts are these
 watched_as : (air : AirState) (m : MemberState) (arrivals : List Arrived) (past : List (List Entry)) (journal : List Entry) → m.arrivals ≡ arrivals → m.past ≡ past → m.node.journal ≡ journal
-    → IsKept (record { air = air; arrivals = arrivals }) past journal (pair_in m.node) → ((p : ℕ) → neighbour_of m.node p ≡ None) → IsWatched air m
-watched_as air m arrivals past journal arrivals_are past_is journal_is h alone =
+    → IsKept (record { air = air; arrivals = arrivals }) past journal (pair_in m.node) → ((p : ℕ) → neighbour_of m.node p ≡ None) → (own boot : ℕ) → m.node.casting ≡ booted own boot → IsWatched air m
+watched_as air m arrivals past journal arrivals_are past_is journal_is h alone own boot casting =
     watched_of air m (subst (λ zs. IsKept (record { air = air; arrivals = zs }) m.past m.node.journal (pair_in m.node)) (sym arrivals_are)
     (subst (λ js. IsKept (record { air = air; arrivals = arrivals }) js m.node.journal (pair_in m.node)) (sym past_is)
     (subst (λ j. IsKept (record { air = air; arrivals = arrivals }) past j (pair_in m.node)) (sym journal_is) h)))
-    (λ p x is. absurd (let none = alone p in let wrong : None ≡ Some x = sym none ∙ is in cc))
+    (λ p x is. absurd (let none = alone p in let wrong : None ≡ Some x = sym none ∙ is in cc)) (fresh_casts_traced (seen_by air m) m.node own boot casting alone)
 
 restart_watched : (air air' : AirState) (m m' : MemberState) → GrowsAir air air' → IsWatched air m → IsRestarted m m' → IsWatched air' m'
 restart_watched air air' m m' longer w r =
     watched_as air' m' m.arrivals (m.past ++ m.node.journal ∷ []) [] r.arrivals r.past r.node.no_history
-    (restarted_kept (seen_by air' m) m.past m.node.journal (pair_in m.node) (pair_in m'.node) (kept_in air air' m longer w) (λ p. ap (λ o. option_map (λ (x : Neighbour). x.pair) o) (r.node.alone p))) r.node.alone
+    (restarted_kept (seen_by air' m) m.past m.node.journal (pair_in m.node) (pair_in m'.node) (kept_in air air' m longer w) (λ p. ap (λ o. option_map (λ (x : Neighbour). x.pair) o) (r.node.alone p))) r.node.alone m.node.own (m.node.boot + 1) r.node.casting
 
 newcomer_watched : (air : AirState) (m : MemberState) (n first : ℕ) → IsNewcomer m n first → IsWatched air m
 newcomer_watched air m n first c =
     watched_as air m [] [] [] c.arrivals c.past c.node.no_history
-    (started_kept (record { air = air; arrivals = [] }) [] (pair_in m.node) (λ k j there. absurd cc) (λ p. ap (λ o. option_map (λ (x : Neighbour). x.pair) o) (c.node.alone p))) c.node.alone
+    (started_kept (record { air = air; arrivals = [] }) [] (pair_in m.node) (λ k j there. absurd cc) (λ p. ap (λ o. option_map (λ (x : Neighbour). x.pair) o) (c.node.alone p))) c.node.alone (node_word n) first c.node.casting
 
 -- ---- all events
 
-does_watched : (s : Stage) (air' : AirState) (by : By) (event : WorldEvent) (bytes : List ℕ) (m m' : MemberState) (frames : List Outgoing) (answered : Answer) → IsSound s.members s.air → GrowsAir s.air air'
+does_watched : (s : Stage) (air' : AirState) (by : By) (event : WorldEvent) (bytes : List ℕ) (m m' : MemberState) (frames : List Outgoing) (answered : Answer) → IsSteady s.members s.air → GrowsAir s.air air'
     → slice_index_or s.members (node_of event) None ≡ Some m → IsWatched s.air m → IsReady s.members s.air event bytes m → HasEffect by event bytes m m' frames answered → IsWatched air' m'
-does_watched s air' by (Restart a) bytes m m' frames answered sound longer here w ready h = restart_watched s.air air' m m' longer w h.0
-does_watched s air' by (Call a call) bytes m m' frames answered sound longer here w ready h = make_watched s air' a by call m m' frames answered sound longer here w h
-does_watched s air' by (Arrive a bearer place) bytes m m' frames answered sound longer here w ready h =
-    meet_watched s air' a by bearer place ready.0 m m' frames answered sound longer here w ready.1 (comes_out s a bearer place ready.0 sound ready.1 ready.2 (length m.arrivals)) (subst (λ bs. Meets by bearer place bs m m' frames answered) ready.3 h)
+does_watched s air' by (Restart a) bytes m m' frames answered steady longer here w ready h = restart_watched s.air air' m m' longer w h.0
+does_watched s air' by (Call a call) bytes m m' frames answered steady longer here w ready h = make_watched s air' a by call m m' frames answered steady longer here w h
+does_watched s air' by (Arrive a bearer place) bytes m m' frames answered steady longer here w ready h =
+    meet_watched s air' a by bearer place ready.0 m m' frames answered steady longer here w ready.1 ready.2 (subst (λ bs. Meets by bearer place bs m m' frames answered) ready.3 h)
 
 -- ---- the world
 
@@ -209,32 +228,32 @@ set_watched members air air' a before after was all longer new n m there = elim 
   | inr apart ↦ watched_wider air air' m longer (all n m (sym (get_or-set_other members a n (Some after) None apart) ∙ there))
 ]
 
-happens_watched : (old new : Stage) (by : By) (event : WorldEvent) (bytes : List ℕ) (answered : Answer) (lost : Bool) → IsSound old.members old.air → AreWatched old.members old.air → (h : Happens old new by event bytes answered lost)
+happens_watched : (old new : Stage) (by : By) (event : WorldEvent) (bytes : List ℕ) (answered : Answer) (lost : Bool) → IsSteady old.members old.air → (h : Happens old new by event bytes answered lost)
     → IsReady old.members old.air event bytes h.before → AreWatched new.members new.air
-happens_watched old new by event bytes answered lost sound all h ready =
+happens_watched old new by event bytes answered lost steady h ready =
     let a = node_of event in
     let longer = air_longer old new a h.before h.after h.frames lost h.turns in
     subst (λ ms. AreWatched ms new.air) (sym h.turns.members)
-    (set_watched old.members old.air new.air a h.before h.after h.turns.was all longer
-    (does_watched old new.air by event bytes h.before h.after h.frames answered sound longer h.turns.was (all a h.before h.turns.was) ready h.does))
+    (set_watched old.members old.air new.air a h.before h.after h.turns.was steady.watched longer
+    (does_watched old new.air by event bytes h.before h.after h.frames answered steady longer h.turns.was (steady.watched a h.before h.turns.was) ready h.does))
 
-arrival_watched : (old new : Stage) (by : By) (node bearer place : ℕ) (answered : Answer) (lost : Bool) → IsSound old.members old.air → AreWatched old.members old.air → IsArrival old new by node bearer place answered lost
+arrival_watched : (old new : Stage) (by : By) (node bearer place : ℕ) (answered : Answer) (lost : Bool) → IsSteady old.members old.air → IsArrival old new by node bearer place answered lost
     → AreWatched new.members new.air
-arrival_watched old new by node bearer place answered lost sound all h = case (unarrived old.members old.air node bearer place) refl
+arrival_watched old new by node bearer place answered lost steady h = case (unarrived old.members old.air node bearer place) refl
   where
     case : (o : Option Answer) → unarrived old.members old.air node bearer place ≡ o → AreWatched new.members new.air
-    case (Some reason) stops = subst (λ (s : Stage). AreWatched s.members s.air) (sym (h.none reason stops).1) all
+    case (Some reason) stops = subst (λ (s : Stage). AreWatched s.members s.air) (sym (h.none reason stops).1) steady.watched
     case None free =
         let a = h.arrives free in
-        happens_watched old new by (Arrive node bearer place) a.0.frame answered lost sound all a.2 (a.0, a.1, free, refl)
+        happens_watched old new by (Arrive node bearer place) a.0.frame answered lost steady a.2 (a.0, a.1, free, refl)
 
 -- after one event
-pub becomes_watched : (old new : Stage) (by : By) (event : WorldEvent) (answered : Answer) (lost : Bool) → IsSound old.members old.air → AreWatched old.members old.air → HasNextBoot old.members event
+pub becomes_watched : (old new : Stage) (by : By) (event : WorldEvent) (answered : Answer) (lost : Bool) → IsSteady old.members old.air → HasNextBoot old.members event
     → Becomes old by event new answered lost → AreWatched new.members new.air
-becomes_watched old new by (Restart node) answered lost sound all boots h =
-    happens_watched old new by (Restart node) [] answered lost sound all h (let next = boots h.before h.turns.was in omega arith)
-becomes_watched old new by (Call node call) answered lost sound all boots h = happens_watched old new by (Call node call) [] answered lost sound all h tt
-becomes_watched old new by (Arrive node bearer place) answered lost sound all boots h = arrival_watched old new by node bearer place answered lost sound all h
+becomes_watched old new by (Restart node) answered lost steady boots h =
+    happens_watched old new by (Restart node) [] answered lost steady h (let next = boots h.before h.turns.was in omega arith)
+becomes_watched old new by (Call node call) answered lost steady boots h = happens_watched old new by (Call node call) [] answered lost steady h tt
+becomes_watched old new by (Arrive node bearer place) answered lost steady boots h = arrival_watched old new by node bearer place answered lost steady h
 
 -- where no nodes are
 pub start_watched : AreWatched [] empty_air

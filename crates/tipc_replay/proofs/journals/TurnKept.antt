@@ -22,14 +22,14 @@ use Rattle.tipc_pair.specs.PairTurns.Opening.{cuts, hears, makes, mends, rests, 
 use Rattle.tipc_pair.specs.Messages.{opened_in}
 use Rattle.tipc_journal.specs.Streams.{flow_eq}
 use Rattle.tipc_types.specs.declared.message_forms.Flow.{Flow}
-use Rattle.tipc_types.specs.declared.message_forms.Flow.TheVariants.{Zero}
+use Rattle.tipc_types.specs.declared.message_forms.Flow.TheVariants.{Broadcast, One, Zero}
 use Rattle.tipc_node.specs.Nodes.{NodeState, change_entry, neighbour_of, pair_with}
 use Rattle.tipc_node.proofs.pairs.Strangers.{kept_tells}
 use Rattle.tipc_replay.specs.Sound.{IsNumber}
 use Rattle.tipc_replay.proofs.pairs.Pairings.{end_read}
 use Rattle.tipc_node.specs.Telling.{IsTold, TellsOf}
 use Rattle.tipc_pair.specs.LinkReadings.{AreAbreast, epochs_on, silence_in}
-use Rattle.tipc_node.specs.Turns.{IsBrought, IsPlaced, NodeTurn, PeerTurn, addr_of, is_accepted_for, is_change_of, is_delivered_from, pair_in}
+use Rattle.tipc_node.specs.Turns.{HaveJoined, IsBrought, IsPlaced, NodeTurn, PeerTurn, addr_of, is_accepted_for, is_cast_for, is_cast_from, is_change_of, is_delivered_from, pair_in}
 use Rattle.tipc_pair.proofs.turns.Moves.{epochs_at}
 use Rattle.tipc_node.proofs.journal.Telling.{same_word}
 use Rattle.tipc_replay.specs.Causes.{HasTicked, IsCaused, arrived_frame, IsNumberOf, IsResetOf, IsTunnelOf, Seen}
@@ -42,6 +42,7 @@ use Rattle.tipc_pair.proofs.turns.Reasons.{CutsOff, HearsHigher, HearsReset, Hea
 use Rattle.tipc_replay.proofs.journals.Stepping.{Arrives, passed, passes}
 use Rattle.tipc_replay.proofs.journals.TunnelsTaken.{TakesTunnels}
 use Rattle.tipc_replay.proofs.journals.TurnContacts.{contact_ended}
+use Rattle.tipc_replay.proofs.journals.TurnCasts.{AreCastSpelled, AreCastsLawful, casts_lawful}
 use Rattle.tipc_replay.proofs.journals.TurnMessages.{messages_lawful}
 use Rattle.tipc_pair.proofs.turns.TurnReasons.{BringsFit, first_reasons}
 use Rattle.tipc_replay.proofs.journals.TurnTimed.{turn_timed}
@@ -57,8 +58,8 @@ each_mapped P f (x ∷ xs) h (suc k) y there = each_mapped P f xs (λ j z at. h 
 named : (peer : Addr) (b : ℕ) → peer ≡ addr_of b → (peer.word == node_word b) ≡ true
 named peer b is = ap (λ (a : Addr). a.word == node_word b) is ∙ same_word b
 
-named_in : (peer : Addr) (b : ℕ) (flow : Flow) → peer ≡ addr_of b → flow ≡ Zero → ((peer.word == node_word b) && flow_eq flow Zero) ≡ true
-named_in peer b flow is flow_is = ap (λ t. t && flow_eq flow Zero) (named peer b is) ∙ ap (λ f. flow_eq f Zero) flow_is
+named_in : (peer : Addr) (b : ℕ) (its flow : Flow) → peer ≡ addr_of b → flow_eq its flow ≡ true → ((peer.word == node_word b) && flow_eq its flow) ≡ true
+named_in peer b its flow is same = ap (λ t. t && flow_eq its flow) (named peer b is) ∙ same
 
 -- ---- what happened first, and the event of the step
 
@@ -259,10 +260,11 @@ record PeerLawful (seen : Seen) (earlier : List PlacedStep) (s : PlacedStep) (b 
   changes : Each (IsLawfulEntry seen earlier s) (filter (is_change_of b) s.step.inside)
   accepted : Each (IsLawfulEntry seen earlier s) (filter (is_accepted_for b) s.step.inside)
   delivered : Each (IsLawfulEntry seen earlier s) (filter (is_delivered_from b) s.step.inside)
+  casts : AreCastsLawful seen earlier s b
 
 peer_lawful : (seen : Seen) (n : NodeState) (bytes : List ℕ) (s : NodeStep) (frames : List Outgoing) (b : ℕ) (x' : PairEnds) (t : PeerTurn n.own bytes s frames b (pair_with n b) x') → PeerKnown seen n s bytes b
-    → TellsOf (n.journal ++ step_entries s) b (Some x') → All (IsGivenSpelled seen s b) (opened_in t.turn.first.given) → PeerLawful seen (steps n.journal) (placed_in n s) b
-peer_lawful seen n bytes s frames b x' t k told spelled =
+    → TellsOf (n.journal ++ step_entries s) b (Some x') → All (IsGivenSpelled seen s b) (opened_in t.turn.first.given) → AreCastsLawful seen (steps n.journal) (placed_in n s) b → PeerLawful seen (steps n.journal) (placed_in n s) b
+peer_lawful seen n bytes s frames b x' t k told spelled casts =
     let first = t.turn.first in
     let P = IsLawfulEntry seen (steps n.journal) (placed_in n s) in
     let abreast : AreAbreast (pair_with n b) = k.before.abreast in
@@ -273,6 +275,7 @@ peer_lawful seen n bytes s frames b x' t k told spelled =
           (λ i c at. change_lawful seen n bytes s frames b x' t k abreast told i c at (all_at (IsReason (pair_with n b) t.opening first.given first.course.changes) first.course.changes i c reasons at)));
       accepted = messages.accepted;
       delivered = messages.delivered;
+      casts = casts;
     }
 
 -- ---- the turn
@@ -280,14 +283,14 @@ peer_lawful seen n bytes s frames b x' t k told spelled =
 -- what a step tells of each other node is lawful
 turn_lawful : (seen : Seen) (a : ℕ) (n n' : NodeState) (bytes : List ℕ) (s : NodeStep) (frames : List Outgoing) (t : NodeTurn n n' bytes s frames) → IsTold n → ((p : ℕ) → TellsOf (n.journal ++ step_entries s) p (Some (pair_with n' p)))
     → ((p bearer : ℕ) → HasTicked seen (steps n.journal) (addr_of p) bearer (silence_in (end_on bearer (pair_in n p)))) → AreCarried seen s bytes → TakesTunnels n s bytes → AreGivenSpelled seen a n n' bytes s frames t
-    → (b : ℕ) → IsNumber b → b ≢ a → PeerLawful seen (steps n.journal) (placed_in n s) b
-turn_lawful seen a n n' bytes s frames t told later ticked carried answers spelled b number apart =
+    → HaveJoined n → AreCastSpelled seen n n' bytes s frames t → (b : ℕ) → IsNumber b → b ≢ a → PeerLawful seen (steps n.journal) (placed_in n s) b
+turn_lawful seen a n n' bytes s frames t told later ticked carried answers spelled joined cast_spelled b number apart =
     peer_lawful seen n bytes s frames b (pair_with n' b) (t.turns b) (record {
       before = kept_tells n b told;
       ticked = λ bearer. subst (λ o. HasTicked seen (steps n.journal) (addr_of b) bearer (silence_in o)) (end_read n b bearer) (ticked b bearer);
       carried = carried;
       answers = answers;
-    }) (later b) (spelled b number apart)
+    }) (later b) (spelled b number apart) (casts_lawful seen (steps n.journal) n n' bytes s frames b t told joined (later b) cast_spelled)
 
 -- an entry that tells of a neighbour is lawful as those of the neighbour are
 entry_lawful : (seen : Seen) (earlier : List PlacedStep) (s : PlacedStep) (n : NodeState) (place : ℕ) (e : Entry) → ((b : ℕ) → is_some (neighbour_of n b) ≡ true → PeerLawful seen earlier s b) → slice_get s.step.inside place ≡ Some e → IsPlaced n e
@@ -298,21 +301,28 @@ entry_lawful seen earlier s n place (entry.LinkDown peer bearer cause shown) h t
     let found = passes (is_change_of at.0) s.step.inside place (entry.LinkDown peer bearer cause shown) there (named peer at.0 at.2) in (h at.0 at.1).changes found.0 (entry.LinkDown peer bearer cause shown) found.1
 entry_lawful seen earlier s n place (entry.ContactDown peer numbers states shown) h there at =
     let found = passes (is_change_of at.0) s.step.inside place (entry.ContactDown peer numbers states shown) there (named peer at.0 at.2) in (h at.0 at.1).changes found.0 (entry.ContactDown peer numbers states shown) found.1
-entry_lawful seen earlier s n place (entry.Accepted peer numbers flow message) h there at =
-    let found = passes (is_accepted_for at.0.0) s.step.inside place (entry.Accepted peer numbers flow message) there (named_in peer at.0.0 flow at.0.2 at.1) in (h at.0.0 at.0.1).accepted found.0 (entry.Accepted peer numbers flow message) found.1
-entry_lawful seen earlier s n place (entry.Delivered peer numbers flow message by) h there at =
-    let found = passes (is_delivered_from at.0.0) s.step.inside place (entry.Delivered peer numbers flow message by) there (named_in peer at.0.0 flow at.0.2 at.1) in (h at.0.0 at.0.1).delivered found.0 (entry.Delivered peer numbers flow message by) found.1
+entry_lawful seen earlier s n place (entry.Accepted peer numbers Zero message) h there at =
+    let found = passes (is_accepted_for at.0.0) s.step.inside place (entry.Accepted peer numbers Zero message) there (named_in peer at.0.0 Zero Zero at.0.2 refl) in (h at.0.0 at.0.1).accepted found.0 (entry.Accepted peer numbers Zero message) found.1
+entry_lawful seen earlier s n place (entry.Accepted peer numbers Broadcast message) h there at =
+    let found = passes (is_cast_for at.0.0) s.step.inside place (entry.Accepted peer numbers Broadcast message) there (named_in peer at.0.0 Broadcast Broadcast at.0.2 refl) in (h at.0.0 at.0.1).casts.accepted found.0 (entry.Accepted peer numbers Broadcast message) found.1
+entry_lawful seen earlier s n place (entry.Accepted peer numbers One message) h there at = absurd at.1
+entry_lawful seen earlier s n place (entry.Delivered peer numbers Zero message by) h there at =
+    let found = passes (is_delivered_from at.0.0) s.step.inside place (entry.Delivered peer numbers Zero message by) there (named_in peer at.0.0 Zero Zero at.0.2 refl) in (h at.0.0 at.0.1).delivered found.0 (entry.Delivered peer numbers Zero message by) found.1
+entry_lawful seen earlier s n place (entry.Delivered peer numbers Broadcast message by) h there at =
+    let found = passes (is_cast_from at.0.0) s.step.inside place (entry.Delivered peer numbers Broadcast message by) there (named_in peer at.0.0 Broadcast Broadcast at.0.2 refl) in
+    (h at.0.0 at.0.1).casts.delivered found.0 (entry.Delivered peer numbers Broadcast message by) found.1
+entry_lawful seen earlier s n place (entry.Delivered peer numbers One message by) h there at = absurd at.1
 entry_lawful seen earlier s n place other_entry h there at = tt
 
 carried_arrives : (seen : Seen) (s : NodeStep) (bytes : List ℕ) → AreCarried seen s bytes → Arrives seen s
 carried_arrives seen s bytes carried bearer number is = let c = carried bearer number is in (c.1.frame, c.0, c.1.arrived)
 
 pub turn_kept : (seen : Seen) (past : List (List Entry)) (a : ℕ) (n n' : NodeState) (bytes : List ℕ) (s : NodeStep) (frames : List Outgoing) (t : NodeTurn n n' bytes s frames) → IsKept seen past n.journal (pair_in n) → IsTold n → IsTold n'
-    → AreCarried seen s bytes → TakesTunnels n s bytes → AreGivenSpelled seen a n n' bytes s frames t → ((b : ℕ) → is_some (neighbour_of n b) ≡ true → IsNumber b × (b ≢ a)) → IsKept seen past n'.journal (pair_in n')
-turn_kept seen past a n n' bytes s frames t h told told' carried answers spelled other =
+    → AreCarried seen s bytes → TakesTunnels n s bytes → AreGivenSpelled seen a n n' bytes s frames t → HaveJoined n → AreCastSpelled seen n n' bytes s frames t → ((b : ℕ) → is_some (neighbour_of n b) ≡ true → IsNumber b × (b ≢ a)) → IsKept seen past n'.journal (pair_in n')
+turn_kept seen past a n n' bytes s frames t h told told' carried answers spelled joined cast_spelled other =
     let later : (p : ℕ) → TellsOf (n.journal ++ step_entries s) p (Some (pair_with n' p)) = λ p. subst (λ j. TellsOf j p (Some (pair_with n' p))) t.journal (kept_tells n' p told') in
     let after : (p : ℕ) → TellsOf (n.journal ++ step_entries s) p (pair_in n' p) = λ p. subst (λ j. TellsOf j p (pair_in n' p)) t.journal (told'.links p) in
-    let each : (b : ℕ) → is_some (neighbour_of n b) ≡ true → PeerLawful seen (steps n.journal) (placed_in n s) b = λ b there. (let peer = other b there in turn_lawful seen a n n' bytes s frames t told later h.ticked carried answers spelled b peer.0 peer.1) in
+    let each : (b : ℕ) → is_some (neighbour_of n b) ≡ true → PeerLawful seen (steps n.journal) (placed_in n s) b = λ b there. (let peer = other b there in turn_lawful seen a n n' bytes s frames t told later h.ticked carried answers spelled joined cast_spelled b peer.0 peer.1) in
     let entries : Each (IsLawfulEntry seen (steps n.journal) (placed_in n s)) s.inside =
     λ place e there. entry_lawful seen (steps n.journal) (placed_in n s) n place e each there (all_at (IsPlaced n) s.inside place e t.placed there) in
     let parted = turn_parted n n' bytes s frames t told (λ place peer numbers states number there. (entries place (entry.ContactDown peer numbers states number) there).1) in

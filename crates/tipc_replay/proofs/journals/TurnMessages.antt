@@ -32,10 +32,10 @@ use Rattle.tipc_replay.proofs.journals.TurnTraced.{IsGivenSpelled}
 -- ---- lists of entries
 use Rattle.tipc_pair.proofs.turns.TurnMeans.{on_bearers as are_on}
 
-none_lawful : (P : Entry → Type 0) → Each P []
+pub none_lawful : (P : Entry → Type 0) → Each P []
 none_lawful P k x e = absurd cc
 
-one_lawful : (P : Entry → Type 0) (a : Entry) → P a → Each P (a ∷ [])
+pub one_lawful : (P : Entry → Type 0) (a : Entry) → P a → Each P (a ∷ [])
 one_lawful P a ha zero x e = let same : a ≡ x = cc in subst P same ha
 one_lawful P a ha (suc k) x e = absurd cc
 

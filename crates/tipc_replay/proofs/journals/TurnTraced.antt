@@ -4,6 +4,7 @@ use Rattle.std.proofs.Common.{◌≡◌, ◌≤◌, ◌<◌, ◌+◌, ℕ, suc, 
 use Rattle.std.proofs.lemmas.List.Elements.{All-cons, All-head, All-nil, All-tail, All-weaker}
 use Rattle.std.proofs.lemmas.Option.{slice_get_within}
 use Rattle.tipc_types.specs.declared.identity.To.TheVariants as to
+use Rattle.tipc_types.specs.declared.message_forms.Flow.{Flow}
 use Rattle.tipc_types.specs.declared.message_forms.Flow.TheVariants.{Zero}
 use Rattle.tipc_types.specs.Address.{node_word}
 use Rattle.tipc_types.specs.declared.identity.Addr.{Addr}
@@ -13,7 +14,7 @@ use Rattle.tipc_types.specs.declared.packet_lists.Taken.{Taken}
 use Rattle.tipc_outside.specs.declared.outgoing.Outgoing.{Outgoing}
 use Rattle.tipc_journal.specs.Steps.{NodeStep}
 use Rattle.tipc_header.specs.Frames.{kind_in}
-use Rattle.tipc_header.specs.declared.frames.FrameKind.TheVariants.{Links}
+use Rattle.tipc_header.specs.declared.frames.FrameKind.TheVariants.{Casts, Links}
 use Rattle.tipc_header.specs.Spelling.{Fields, spelling}
 use Rattle.tipc_reassembly.specs.declared.opening.Opened.{Opened}
 use Rattle.tipc_reassembly.specs.declared.opening.Opened.TheVariants.{Whole, Passed}
@@ -61,6 +62,8 @@ pub record IsCarried (seen : Seen) (bearer number : ℕ) (bytes : List ℕ) : Ty
   pub from : frame.from.word ≡ node_word sender
   -- a link packet came in a frame for one node
   pub one : kind_in bytes ≡ Links → (address : Addr) × (frame.to ≡ to.Node address)
+  -- and a broadcast packet in one for all
+  pub all : kind_in bytes ≡ Casts → frame.to ≡ to.All
   pub es : ℕ
   pub er : ℕ
   pub packet : Fields
@@ -102,7 +105,7 @@ opening_brought seen s bytes b other suits brought carried = tt
 
 -- ---- the air and the arrivals grow
 
-came_weaker : (P Q : ℕ → List ℕ → Type 0) → ((by : ℕ) (bytes : List ℕ) → P by bytes → Q by bytes) → (o : Option Taken) → CameBy P o → CameBy Q o
+pub came_weaker : (P Q : ℕ → List ℕ → Type 0) → ((by : ℕ) (bytes : List ℕ) → P by bytes → Q by bytes) → (o : Option Taken) → CameBy P o → CameBy Q o
 came_weaker P Q more None h = tt
 came_weaker P Q more (Some t) h = more t.by t.packet h
 
@@ -128,8 +131,9 @@ number_below seen bearer number f is = case (slice_get seen.arrivals number) ref
     case (Some x) some = slice_get_within seen.arrivals number x some
 
 -- what was brought until now was brought in this step, or before it
-brought_by_now : (seen : Seen) (s : NodeStep) (peer : Addr) (bearer number : ℕ) → s.event ≡ event.Arrive bearer number → length seen.arrivals ≡ number + 1 → (by : ℕ) (bytes : List ℕ) → HasBrought seen Zero peer by bytes → HasBrought seen Zero peer by bytes × IsBy s by
-brought_by_now seen s peer bearer number is size by bytes b =
+pub brought_by_now : (seen : Seen) (s : NodeStep) (flow : Flow) (peer : Addr) (bearer number : ℕ) → s.event ≡ event.Arrive bearer number → length seen.arrivals ≡ number + 1 → (by : ℕ) (bytes : List ℕ) → HasBrought seen flow peer by bytes
+    → HasBrought seen flow peer by bytes × IsBy s by
+brought_by_now seen s flow peer bearer number is size by bytes b =
     let below = number_below seen b.bearer by b.frame b.arrived in
     (b, record { bearer = bearer; number = number; event_is = is; until = omega (arith, below, size) })
 
@@ -148,7 +152,7 @@ given_spelled seen s q bearer number (Whole packet by ∷ os) is size traced kno
     let one : IsGivenSpelled seen s q (Whole packet by) = λ m has.
     let same : first.0 ≡ m = (let e : Some first.0 ≡ Some m = sym (message_is_in (node_word q) first.0 packet first.1 first.2) ∙ has in cc) in
     subst (λ k. IsSpelled seen s Zero (addr_of q) k by) same
-    (subst (λ bs. IsTraced (λ n b. P n b × IsBy s n) bs by) (sym first.2) (traced_weaker P (λ n b. P n b × IsBy s n) (brought_by_now seen s (addr_of q) bearer number is size) packet by (All-head (IsOpenedBy P) (Whole packet by) os traced))) in
+    (subst (λ bs. IsTraced (λ n b. P n b × IsBy s n) bs by) (sym first.2) (traced_weaker P (λ n b. P n b × IsBy s n) (brought_by_now seen s Zero (addr_of q) bearer number is size) packet by (All-head (IsOpenedBy P) (Whole packet by) os traced))) in
     All-cons (IsGivenSpelled seen s q) (Whole packet by) os one
     (given_spelled seen s q bearer number os is size (All-tail (IsOpenedBy P) (Whole packet by) os traced) (λ k p there. known (suc k) p there))
 given_spelled seen s q bearer number (Passed place ∷ os) is size traced known =

@@ -51,7 +51,7 @@ opening_brings word v w x opening o pair h may shows happened known =
 -- what a node of a sound world put is of a message that it can send
 put_known : (members : List (Option MemberState)) (air : AirState) (a b : ℕ) → IsSound members air → (own theirs : ℕ) → Each (IsOfMessage (node_word a)) ((sight_at members air a b).put own theirs)
 unfolding sight_at accepted_at
-put_known members air a b h own theirs k packet there = put_message (node_word a) (accepted_at members a b own theirs Zero) k packet (h.accepted a b own theirs) there
+put_known members air a b h own theirs k packet there = put_message (node_word a) (accepted_at members a b own theirs Zero) k packet (λ j m is. (h.accepted a b own theirs Zero j m is).sendable) there
 
 -- in a sound world a node's turn gives the messages of each other node
 pub are_brought : (old : Stage) (a : ℕ) (m m' : MemberState) (bytes : List ℕ) (s : NodeStep) (frames : List Outgoing) → IsSound old.members old.air → slice_index_or old.members a None ≡ Some m

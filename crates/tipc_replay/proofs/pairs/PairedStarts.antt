@@ -15,7 +15,7 @@ use Rattle.tipc_replay.proofs.streams.Histories.{history_restarted}
 use Rattle.tipc_replay.proofs.LookUps.{boot_at-is, pair_at-is}
 use Rattle.tipc_replay.proofs.pairs.Turning.{AllPaired, all_paired, is_there, same_given, same_numbered, same_put, same_sent, sight_in, was_there}
 
-restarts : (old new : Stage) (a : ℕ) (before after : MemberState) (frames : List Outgoing) (lost : Bool) (b : ℕ) → Turns old new a before after frames lost → IsRestarted before after → frames ≡ []
+pub restarts : (old new : Stage) (a : ℕ) (before after : MemberState) (frames : List Outgoing) (lost : Bool) (b : ℕ) → Turns old new a before after frames lost → IsRestarted before after → frames ≡ []
     → Restarts (sight_in old a b) (sight_in new a b)
 unfolding sight_at
 restarts old new a before after frames lost b t s none =
@@ -33,7 +33,7 @@ restarts old new a before after frames lost b t s none =
       sent = same_sent old new a before after frames lost b t (ap (frames_to b) none);
     }
 
-boot_is : (s : Stage) (a b : ℕ) (m : MemberState) → member_at s.members a ≡ Some m → (sight_in s a b).node.boot ≡ m.node.boot
+pub boot_is : (s : Stage) (a b : ℕ) (m : MemberState) → member_at s.members a ≡ Some m → (sight_in s a b).node.boot ≡ m.node.boot
 unfolding sight_at
 boot_is s a b m was = boot_at-is s.members a m was
 

@@ -16,6 +16,7 @@ use Rattle.tipc_pair.specs.Facing.{PairEnds, is_up_at}
 use Rattle.tipc_pair.specs.Messages.{IsMessage, opened_in}
 use Rattle.tipc_pair.specs.PairTurns.{Opening, PairTurn, Reply, ShowsAtLast, ShowsIn, Suits}
 use Rattle.tipc_pair.specs.PairTurns.Opening.{cuts, hears, makes, mends, rests, ticks}
+use Rattle.tipc_two_nodes.specs.Reaching.{Steps, turns as turns_node}
 use Rattle.tipc_two_nodes.specs.Sights.{AreSeen, PairBecomes, HasSession, MayHappen, Sight, pair_seen}
 use Rattle.tipc_two_nodes.proofs.sights.Sights.{turns}
 use Rattle.tipc_two_nodes.proofs.sights.LastSessions.{last_epoch}
@@ -161,6 +162,37 @@ pub turned_by : (v v' w : Sight) (x x' : PairEnds) (opening : Opening) (messages
 turned_by v v' w x x' opening messages reply frames pair h may shows shows_last all =
     subst (λ q. (t : PairTurn q opening messages reply x' frames) → PairBecomes v v' w x' frames messages (packets_in (opened_in t.first.given)) → AreSeen v' w × AreFit frames) pair
     (λ t g. (turns v v' w opening messages reply x' frames h may shows shows_last all t g, turn_fits v v' w opening messages reply x' frames h may shows shows_last all t g))
+
+-- It is a step of the node beside the other.
+steps_by : (v v' w : Sight) (x x' : PairEnds) (opening : Opening) (messages : List (List ℕ)) (reply : Option Reply) (frames : List Outgoing) → pair_seen v ≡ x → MayHappen v w opening
+    → ShowsIn opening → ShowsAtLast reply → All (IsMessage v.node.own) messages → (t : PairTurn x opening messages reply x' frames)
+    → PairBecomes v v' w x' frames messages (packets_in (opened_in t.first.given)) → Steps v w v'
+steps_by v v' w x x' opening messages reply frames pair may shows shows_last all =
+    subst (λ q. (t : PairTurn q opening messages reply x' frames) → PairBecomes v v' w x' frames messages (packets_in (opened_in t.first.given)) → Steps v w v') pair
+    (λ t g. turns_node v' opening messages reply x' frames may shows shows_last all t g)
+
+-- A node that took a turn made a step beside each other one.
+pub steps_with : (old new : Stage) (a : ℕ) (m m' : MemberState) (bytes : List ℕ) (s : NodeStep) (frames : List Outgoing) (lost : Bool) → IsSound old.members old.air → Turns old new a m m' frames lost
+    → (turn : TakesTurn m m' bytes s frames) → ComesOut old a s.event bytes → AreBrought a m.node m'.node bytes s frames turn.turn → (b : ℕ) → IsNumber b → b ≢ a
+    → Steps (sight_in old a b) (sight_in old b a) (sight_in new a b)
+steps_with old new a m m' bytes s frames lost sound t turn out brought b number apart =
+    let p = turn.turn.turns b in
+    let x = pair_with m.node b in
+    let y = pair_with m'.node b in
+    let v = sight_in old a b in
+    let put = map (bytes_of m.node.own) p.messages in
+    let given = packets_in (opened_in p.turn.first.given) in
+    let named = (sound.numbered a m t.was).1 in
+    let own : v.node.own ≡ m.node.own = own_word old a b ∙ sym named in
+    let seen = kept_sight old a b m sound (was_there old new a m m' frames lost t) named in
+    let first = (kept_abreast m.node b turn.told).first in
+    let longer : history m' ≡ history m ++ step_entries s = turn_history m m' bytes s frames turn in
+    let recorded : Recorded (node_word a) (history m) (history m') b y put given =
+    subst (λ k. Recorded k (history m) (history m') b y put given) named (turn_records (history m) (history m') m.node.own bytes s frames b x y p longer (brought b number apart)) in
+    steps_by v (sight_in new a b) (sight_in old b a) x y p.opening put p.reply p.own_frames seen
+    (may_happen v (sight_in old b a) b s.event bytes x p.opening seen p.anew (λ bearer number es er q. out bearer number b es er q) p.suits p.on_one p.brought)
+    p.shows p.shows_last (subst (λ k. All (IsMessage k) put) (sym own) (messages_are m.node.own p.messages p.sendable)) p.turn
+    (goes old new a m m' frames lost b y p.own_frames put given t apart (changed (node_word a) m m' bytes s frames b number first turn recorded))
 
 -- Another node and the node that took a turn talk on, and each frame for it fits the air.
 pub turned_with : (old new : Stage) (a : ℕ) (m m' : MemberState) (bytes : List ℕ) (s : NodeStep) (frames : List Outgoing) (lost : Bool) → IsSound old.members old.air → Turns old new a m m' frames lost

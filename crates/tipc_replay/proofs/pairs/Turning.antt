@@ -42,7 +42,7 @@ pub others_stay : (old new : Stage) (a : ℕ) (before after : MemberState) (fram
 others_stay old new a before after frames lost t x apart = ap (λ ms. member_at ms x) t.members ∙ member_at-other old.members a x after apart
 
 -- another node is to every node as it was
-sights_apart : (old new : Stage) (a : ℕ) (before after : MemberState) (frames : List Outgoing) (lost : Bool) → Turns old new a before after frames lost → (c d : ℕ) → c ≢ a → sight_in new c d ≡ sight_in old c d
+pub sights_apart : (old new : Stage) (a : ℕ) (before after : MemberState) (frames : List Outgoing) (lost : Bool) → Turns old new a before after frames lost → (c d : ℕ) → c ≢ a → sight_in new c d ≡ sight_in old c d
 unfolding sight_at
 sights_apart old new a before after frames lost t c d apart =
     let same = others_stay old new a before after frames lost t c apart in

@@ -19,7 +19,7 @@ use Rattle.tipc_reassembly.specs.declared.opening.Opened.TheVariants.{Whole, Pas
 use Rattle.tipc_pair.specs.declared.changes.PairOutcome.{PairOutcome}
 use Rattle.tipc_pair.specs.Facing.{PairEnds}
 use Rattle.tipc_pair.specs.Messages.{opened_in}
-use Rattle.tipc_node.specs.Messages.{message_in}
+use Rattle.tipc_node.specs.Messages.{message_in, message_in_flow}
 use Rattle.tipc_node.specs.Nodes.{accepted_entry, shown_contact}
 use Rattle.tipc_node.specs.Turns.{delivered_entries as delivery_of, delivered_of, given_entries, is_accepted_for, is_delivered_from}
 use Rattle.tipc_node.proofs.journal.Telling.{same_word}
@@ -188,6 +188,39 @@ pub given_holds : (b : ℕ) (x : PairEnds) (given : PairOutcome) (own theirs : �
 unfolding delivered
 given_holds b x given own theirs flow = all_given b x (opened_in given) own theirs flow
 
+-- in another contact they hold nothing
+contact_apart : (peer own theirs own' theirs' : ℕ) (flow flow' : Flow) → ((own' == own) && (theirs' == theirs)) ≡ false → stream_eq (stream_of peer own theirs flow) (stream_of peer own' theirs' flow') ≡ false
+unfolding stream_eq
+contact_apart peer own theirs own' theirs' flow flow' apart =
+    ap (λ t. (node_word peer == node_word peer) && (t && ((theirs == theirs') && flow_eq flow flow'))) (turned own own')
+    ∙ ap (λ t. (node_word peer == node_word peer) && ((own' == own) && (t && flow_eq flow flow'))) (turned theirs theirs')
+    ∙ neither (node_word peer == node_word peer) (own' == own) (theirs' == theirs) (flow_eq flow flow') apart
+  where
+    neither : (p q r s : Bool) → (q && r) ≡ false → (p && (q && (r && s))) ≡ false
+    neither false q r s low = refl
+    neither true false r s low = refl
+    neither true true false s low = refl
+    neither true true true s low = absurd (let wrong : true ≡ false = low in cc)
+
+one_apart : (flow flow' : Flow) (b : ℕ) (c : ℕ × ℕ) (o : Option Message) (by : List ℕ) (own theirs : ℕ) → ((own == c.0) && (theirs == c.1)) ≡ false → filter_map (delivered_message (stream_of b own theirs flow')) (delivery_of flow b c o by) ≡ []
+one_apart flow flow' b c (Some m) by own theirs apart = ap (λ t. cons_option (if t then Some m else None) []) (contact_apart b c.0 c.1 own theirs flow flow' apart)
+one_apart flow flow' b c None by own theirs apart = refl
+
+opened_apart : (flow flow' : Flow) (b : ℕ) (c : ℕ × ℕ) (o : Opened) (own theirs : ℕ) → ((own == c.0) && (theirs == c.1)) ≡ false → filter_map (delivered_message (stream_of b own theirs flow')) (delivered_of flow b c o) ≡ []
+opened_apart flow flow' b c (Whole packet by) own theirs apart = one_apart flow flow' b c (message_in_flow flow packet) by own theirs apart
+opened_apart flow flow' b c (Passed place) own theirs apart = refl
+
+all_apart : (flow flow' : Flow) (b : ℕ) (c : ℕ × ℕ) (opened : List Opened) (own theirs : ℕ) → ((own == c.0) && (theirs == c.1)) ≡ false
+    → filter_map (delivered_message (stream_of b own theirs flow')) (flat_map (delivered_of flow b c) opened) ≡ []
+all_apart flow flow' b c [] own theirs apart = refl
+all_apart flow flow' b c (o ∷ os) own theirs apart =
+    filter_map-append (delivered_message (stream_of b own theirs flow')) (delivered_of flow b c o) (flat_map (delivered_of flow b c) os)
+    ∙ ap (λ ms. ms ++ filter_map (delivered_message (stream_of b own theirs flow')) (flat_map (delivered_of flow b c) os)) (opened_apart flow flow' b c o own theirs apart) ∙ all_apart flow flow' b c os own theirs apart
+
+pub given_apart : (flow flow' : Flow) (b : ℕ) (x : PairEnds) (given : PairOutcome) (own theirs : ℕ) → ((own == x.contact) && (theirs == x.seen)) ≡ false → delivered (given_entries flow b x given) (stream_of b own theirs flow') ≡ []
+unfolding delivered
+given_apart flow flow' b x given own theirs apart = all_apart flow flow' b (shown_contact x) (opened_in given) own theirs apart
+
 -- ---- a step
 
 -- what a step adds to the streams of flow Zero of a peer, where these entries of it are of the peer
@@ -219,13 +252,12 @@ unfolding delivered
 delivered_stays old new s x P is none all =
     ap (λ l. delivered l x) is ∙ delivered_step old s x ∙ ap (λ ms. delivered old x ++ ms) (nothing_taken (delivered_message x) P s.inside none all) ∙ append-nil (delivered old x)
 
--- a stream of another flow than Zero has no message of flow Zero
-pub zero_apart : (word other : ℕ) (c d : ℕ × ℕ) (flow' flow : Flow) → flow' ≡ Zero → flow_eq flow Zero ≡ false
+-- a stream has no message of another flow
+pub flows_apart : (word other : ℕ) (c d : ℕ × ℕ) (flow' flow : Flow) → flow_eq flow' flow ≡ false
     → stream_eq (record { peer = record { word = word }; contact = c; flow = flow' }) (record { peer = record { word = other }; contact = d; flow = flow }) ≡ false
 unfolding stream_eq
-zero_apart word other c d flow' flow zero apart =
-    ap (λ f. (word == other) && ((c.0 == d.0) && ((c.1 == d.1) && flow_eq f flow))) zero
-    ∙ ap (λ t. (word == other) && ((c.0 == d.0) && ((c.1 == d.1) && t))) (flows_turned flow ∙ apart) ∙ no_way (word == other) (c.0 == d.0) (c.1 == d.1)
+flows_apart word other c d flow' flow apart =
+    ap (λ t. (word == other) && ((c.0 == d.0) && ((c.1 == d.1) && t))) apart ∙ no_way (word == other) (c.0 == d.0) (c.1 == d.1)
   where
     no_way : (p q r : Bool) → (p && (q && (r && false))) ≡ false
     no_way false q r = refl

@@ -4,14 +4,14 @@ use Rattle.std.specs.List.{flat_map}
 use Rattle.std.proofs.lemmas.Bool.{cases_eq}
 use Rattle.tipc_types.specs.Address.{node_word}
 use Rattle.tipc_types.specs.declared.message_forms.Flow.{Flow}
-use Rattle.tipc_types.specs.declared.message_forms.Flow.TheVariants.{Zero}
+use Rattle.tipc_types.specs.declared.message_forms.Flow.TheVariants.{One, Zero}
 use Rattle.tipc_types.specs.declared.message_forms.Message.{Message}
 use Rattle.tipc_journal.specs.Streams.{accepted, delivered}
 use Rattle.tipc_journal.proofs.StreamLaws.{accepted_nil, delivered_nil}
 use Rattle.tipc_link.proofs.LinkLaw.{Each-none}
 use Rattle.tipc_node.specs.Messages.{IsSendable}
 use Rattle.tipc_replay.specs.Members.{IsNewcomer}
-use Rattle.tipc_replay.specs.Sound.{IsNumber}
+use Rattle.tipc_replay.specs.Sound.{IsBetween, IsSaid}
 use Rattle.tipc_replay.specs.States.{MemberState, accepted_at, delivered_at, history, history_at, member_at, stream_of}
 use Rattle.tipc_replay.specs.Events.{JoinsAt}
 use Rattle.tipc_replay.proofs.LookUps.{history_at-is, history_at-same, member_at-is}
@@ -34,34 +34,34 @@ delivered_nothing members n b own theirs flow none = ap (λ es. delivered es (st
 pub record FewerHistories (members members' : List (Option MemberState)) : Type 0 where
   pub each : (n : ℕ) → (history_at members' n ≡ []) ⊎ (history_at members' n ≡ history_at members n)
 
-none_or_same_flow : (members members' : List (Option MemberState)) (n b own theirs : ℕ) (flow : Flow) → StreamsSound members → (history_at members' n ≡ []) ⊎ (history_at members' n ≡ history_at members n) → flow ≢ Zero
-    → (accepted_at members' n b own theirs flow ≡ []) × (delivered_at members' n b own theirs flow ≡ [])
-none_or_same_flow members members' n b own theirs flow h (inl none) other = (accepted_nothing members' n b own theirs flow none, delivered_nothing members' n b own theirs flow none)
-none_or_same_flow members members' n b own theirs flow h (inr same) other =
-    let before = h.one_flow n b own theirs flow other in
-    (accepted_by members members' n b own theirs flow same ∙ before.0, delivered_by members members' n b own theirs flow same ∙ before.1)
+none_or_same_one : (members members' : List (Option MemberState)) (n b own theirs : ℕ) → StreamsSound members → (history_at members' n ≡ []) ⊎ (history_at members' n ≡ history_at members n)
+    → (accepted_at members' n b own theirs One ≡ []) × (delivered_at members' n b own theirs One ≡ [])
+none_or_same_one members members' n b own theirs h (inl none) = (accepted_nothing members' n b own theirs One none, delivered_nothing members' n b own theirs One none)
+none_or_same_one members members' n b own theirs h (inr same) =
+    let before = h.no_flow_one n b own theirs in
+    (accepted_by members members' n b own theirs One same ∙ before.0, delivered_by members members' n b own theirs One same ∙ before.1)
 
-none_or_same_accepted : (members members' : List (Option MemberState)) (n b own theirs k : ℕ) (m : Message) → StreamsSound members → (history_at members' n ≡ []) ⊎ (history_at members' n ≡ history_at members n)
-    → slice_get (accepted_at members' n b own theirs Zero) k ≡ Some m → IsSendable (node_word n) m
-none_or_same_accepted members members' n b own theirs k m h (inl none) is = Each-none (IsSendable (node_word n)) k m (subst (λ ms. slice_get ms k ≡ Some m) (accepted_nothing members' n b own theirs Zero none) is)
-none_or_same_accepted members members' n b own theirs k m h (inr same) is = h.accepted n b own theirs k m (subst (λ ms. slice_get ms k ≡ Some m) (accepted_by members members' n b own theirs Zero same) is)
+none_or_same_accepted : (members members' : List (Option MemberState)) (n b own theirs : ℕ) (flow : Flow) (k : ℕ) (m : Message) → StreamsSound members → (history_at members' n ≡ []) ⊎ (history_at members' n ≡ history_at members n)
+    → slice_get (accepted_at members' n b own theirs flow) k ≡ Some m → IsSaid flow (node_word n) m
+none_or_same_accepted members members' n b own theirs flow k m h (inl none) is = Each-none (IsSaid flow (node_word n)) k m (subst (λ ms. slice_get ms k ≡ Some m) (accepted_nothing members' n b own theirs flow none) is)
+none_or_same_accepted members members' n b own theirs flow k m h (inr same) is = h.accepted n b own theirs flow k m (subst (λ ms. slice_get ms k ≡ Some m) (accepted_by members members' n b own theirs flow same) is)
 
 none_or_same_delivered : (members members' : List (Option MemberState)) (n b own theirs k : ℕ) (m : Message) → StreamsSound members → (history_at members' n ≡ []) ⊎ (history_at members' n ≡ history_at members n)
     → slice_get (delivered_at members' n b own theirs Zero) k ≡ Some m → IsSendable (node_word b) m
 none_or_same_delivered members members' n b own theirs k m h (inl none) is = Each-none (IsSendable (node_word b)) k m (subst (λ ms. slice_get ms k ≡ Some m) (delivered_nothing members' n b own theirs Zero none) is)
 none_or_same_delivered members members' n b own theirs k m h (inr same) is = h.delivered n b own theirs k m (subst (λ ms. slice_get ms k ≡ Some m) (delivered_by members members' n b own theirs Zero same) is)
 
-none_or_same_nothing : (members members' : List (Option MemberState)) (n b own theirs : ℕ) → StreamsSound members → (history_at members' n ≡ []) ⊎ (history_at members' n ≡ history_at members n)
-    → delivered_at members' n b own theirs Zero ≢ [] → IsNumber n × IsNumber b × (n ≢ b)
-none_or_same_nothing members members' n b own theirs h (inl none) some = absurd (some (delivered_nothing members' n b own theirs Zero none))
-none_or_same_nothing members members' n b own theirs h (inr same) some = h.nothing n b own theirs (λ before. some (delivered_by members members' n b own theirs Zero same ∙ before))
+none_or_same_nothing : (members members' : List (Option MemberState)) (n b own theirs : ℕ) (flow : Flow) → StreamsSound members → (history_at members' n ≡ []) ⊎ (history_at members' n ≡ history_at members n)
+    → delivered_at members' n b own theirs flow ≢ [] → IsBetween n b own theirs
+none_or_same_nothing members members' n b own theirs flow h (inl none) some = absurd (some (delivered_nothing members' n b own theirs flow none))
+none_or_same_nothing members members' n b own theirs flow h (inr same) some = h.nothing n b own theirs flow (λ before. some (delivered_by members members' n b own theirs flow same ∙ before))
 
 pub fewer_keep_streams : (members members' : List (Option MemberState)) → StreamsSound members → FewerHistories members members' → StreamsSound members'
 fewer_keep_streams members members' h f = record {
-  one_flow = λ n b own theirs flow. none_or_same_flow members members' n b own theirs flow h (f.each n);
-  accepted = λ n b own theirs k m. none_or_same_accepted members members' n b own theirs k m h (f.each n);
+  no_flow_one = λ n b own theirs. none_or_same_one members members' n b own theirs h (f.each n);
+  accepted = λ n b own theirs flow k m. none_or_same_accepted members members' n b own theirs flow k m h (f.each n);
   delivered = λ n b own theirs k m. none_or_same_delivered members members' n b own theirs k m h (f.each n);
-  nothing = λ n b own theirs. none_or_same_nothing members members' n b own theirs h (f.each n);
+  nothing = λ n b own theirs flow. none_or_same_nothing members members' n b own theirs flow h (f.each n);
 }
 
 pub member_alike : (members members' : List (Option MemberState)) (n : ℕ) → slice_index_or members' n None ≡ slice_index_or members n None → member_at members' n ≡ member_at members n
@@ -83,8 +83,8 @@ no_history_there n = refl
 -- where no nodes are, nothing was said
 pub streams_start : StreamsSound []
 streams_start = record {
-  one_flow = λ n b own theirs flow other. (accepted_nothing [] n b own theirs flow (no_history_there n), delivered_nothing [] n b own theirs flow (no_history_there n));
-  accepted = λ n b own theirs k m is. Each-none (IsSendable (node_word n)) k m (subst (λ ms. slice_get ms k ≡ Some m) (accepted_nothing [] n b own theirs Zero (no_history_there n)) is);
+  no_flow_one = λ n b own theirs. (accepted_nothing [] n b own theirs One (no_history_there n), delivered_nothing [] n b own theirs One (no_history_there n));
+  accepted = λ n b own theirs flow k m is. Each-none (IsSaid flow (node_word n)) k m (subst (λ ms. slice_get ms k ≡ Some m) (accepted_nothing [] n b own theirs flow (no_history_there n)) is);
   delivered = λ n b own theirs k m is. Each-none (IsSendable (node_word b)) k m (subst (λ ms. slice_get ms k ≡ Some m) (delivered_nothing [] n b own theirs Zero (no_history_there n)) is);
-  nothing = λ n b own theirs some. absurd (some (delivered_nothing [] n b own theirs Zero (no_history_there n)));
+  nothing = λ n b own theirs flow some. absurd (some (delivered_nothing [] n b own theirs flow (no_history_there n)));
 }

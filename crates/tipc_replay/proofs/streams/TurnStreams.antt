@@ -1,41 +1,45 @@
 -- What a turn of a node adds to what it ever accepted for each peer and delivered from it.
 use Rattle.std.specs.Prelude.{All, is_some, option_to_list}
+use Rattle.std.specs.List.{filter}
 use Rattle.std.proofs.Common.{◌≡◌, ◌≢◌, ◌⊎◌, ◌==◌, ◌&&◌, ℕ, suc, Bool, true, false, if◌then◌else◌, List, [], ◌∷◌, ◌++◌, Option, Some, None, inl, inr, map, option_map, slice_get, refl, sym, ap, subst, ◌∙◌, append-nil}
-use Rattle.std.proofs.lemmas.Bool.{cases_Bool}
 use Rattle.std.proofs.lemmas.List.{map-append}
 use Rattle.std.proofs.lemmas.List.Elements.{All-head, All-tail}
 use Rattle.std.proofs.lemmas.Option.{slice_get-map}
 use Rattle.tipc_types.specs.Address.{node_word}
 use Rattle.tipc_types.specs.declared.message_forms.Flow.{Flow}
-use Rattle.tipc_types.specs.declared.message_forms.Flow.TheVariants.{Zero}
+use Rattle.tipc_types.specs.declared.message_forms.Flow.TheVariants.{Broadcast, One, Zero}
 use Rattle.tipc_types.specs.declared.message_forms.Message.{Message}
 use Rattle.tipc_outside.specs.declared.outgoing.Outgoing.{Outgoing}
 use Rattle.tipc_header.specs.Reading.{fields_at}
 use Rattle.tipc_header.specs.Spelling.{spelling}
 use Rattle.tipc_header.proofs.Again.{again}
 use Rattle.tipc_message.specs.Wire.{message_of}
+use Rattle.tipc_broadcast.specs.Deeds.{AreLawful}
 use Rattle.tipc_journal.specs.declared.entries.Entry.{Entry}
 use Rattle.tipc_journal.specs.declared.entries.Entry.TheVariants as entry
 use Rattle.tipc_journal.specs.Steps.{NodeStep, step_entries}
-use Rattle.tipc_journal.specs.Streams.{accepted, accepted_message, delivered, delivered_message, flow_eq}
-use Rattle.tipc_journal.proofs.StreamLaws.{flow_eq_true}
+use Rattle.tipc_journal.specs.Streams.{accepted, accepted_message, delivered, delivered_message}
+use Rattle.tipc_journal.proofs.StreamLaws.{accepted_nil, delivered_nil}
 use Rattle.tipc_reassembly.specs.declared.opening.Opened.{Opened}
 use Rattle.tipc_reassembly.specs.declared.opening.Opened.TheVariants.{Whole, Passed}
 use Rattle.tipc_reassembly.specs.Slots.{IsWholePacket, packets_in}
 use Rattle.tipc_link.proofs.LinkLaw.{Each, Each-append, Each-none, Each-one}
-use Rattle.tipc_pair.specs.Facing.{PairEnds}
+use Rattle.tipc_pair.specs.Facing.{PairEnds, contact_between}
 use Rattle.tipc_pair.specs.PairTurns.{Outset}
 use Rattle.tipc_pair.specs.Messages.{opened_in}
 use Rattle.tipc_two_nodes.specs.Sights.{StaysIn}
 use Rattle.tipc_node.specs.Nodes.{NodeState, accepted_entry, neighbour_of, pair_with}
 use Rattle.tipc_node.specs.Messages.{IsSendable, bytes_of, message_in}
-use Rattle.tipc_node.specs.Turns.{IsPlaced, NodeTurn, PeerTurn, given_entries}
+use Rattle.tipc_node.specs.Turns.HearsCasts.{hears_none, hears_one}
+use Rattle.tipc_node.specs.Turns.{HearsCasts, IsPlaced, IsSent, NodeTurn, PeerTurn, addr_of, cast_told, given_entries, is_cast_from}
 use Rattle.tipc_node.proofs.turns.Turning.{of_other}
-use Rattle.tipc_replay.specs.Sound.{IsNumber}
+use Rattle.tipc_replay.specs.Sound.{IsNumber, IsSaid}
 use Rattle.tipc_pair.proofs.turns.PairPuts.{MeetsAs, puts_meet, replied_meets}
 use Rattle.tipc_replay.specs.States.{stream_of}
 use Rattle.tipc_replay.specs.Views.{given_in, put_in}
-use Rattle.tipc_replay.proofs.streams.Histories.{accepted_grows, accepted_holds, accepted_stays, come_to, delivered_grows, delivered_stays, given_holds, messages_given, other_peer, zero_apart}
+use Rattle.tipc_replay.proofs.streams.Histories.{accepted_grows, accepted_holds, accepted_stays, come_to, delivered_grows, delivered_stays, flows_apart, given_apart, given_holds, messages_given, other_peer}
+use Rattle.tipc_replay.proofs.casts.CastPlain.{cast_stays}
+use Rattle.tipc_replay.proofs.casts.CastStreams.{cast_then, entry_told, heard_then}
 use Rattle.tipc_replay.proofs.LookUps.{either_way}
 use Rattle.tipc_replay.proofs.frames.Messages.{bytes_are}
 
@@ -97,14 +101,18 @@ never_delivered n b own theirs flow alone (entry.Delivered peer numbers flow' me
     ap (λ t. if t then Some message else None) (other_peer peer.word (node_word b) numbers (own, theirs) flow' flow (of_other n b peer alone h.0))
 never_delivered n b own theirs flow alone other h = refl
 
--- nor is any of another flow than Zero
-zero_accepted : (n : NodeState) (b own theirs : ℕ) (flow : Flow) → flow_eq flow Zero ≡ false → (e : Entry) → IsPlaced n e → accepted_message (stream_of b own theirs flow) e ≡ None
-zero_accepted n b own theirs flow apart (entry.Accepted peer numbers flow' message) h = ap (λ t. if t then Some message else None) (zero_apart peer.word (node_word b) numbers (own, theirs) flow' flow h.1 apart)
-zero_accepted n b own theirs flow apart other h = refl
+-- nor is any in flow One
+never_accepted_one : (n : NodeState) (b own theirs : ℕ) (e : Entry) → IsPlaced n e → accepted_message (stream_of b own theirs One) e ≡ None
+never_accepted_one n b own theirs (entry.Accepted peer numbers Zero message) h = ap (λ t. if t then Some message else None) (flows_apart peer.word (node_word b) numbers (own, theirs) Zero One refl)
+never_accepted_one n b own theirs (entry.Accepted peer numbers One message) h = absurd h.1
+never_accepted_one n b own theirs (entry.Accepted peer numbers Broadcast message) h = ap (λ t. if t then Some message else None) (flows_apart peer.word (node_word b) numbers (own, theirs) Broadcast One refl)
+never_accepted_one n b own theirs other h = refl
 
-zero_delivered : (n : NodeState) (b own theirs : ℕ) (flow : Flow) → flow_eq flow Zero ≡ false → (e : Entry) → IsPlaced n e → delivered_message (stream_of b own theirs flow) e ≡ None
-zero_delivered n b own theirs flow apart (entry.Delivered peer numbers flow' message by) h = ap (λ t. if t then Some message else None) (zero_apart peer.word (node_word b) numbers (own, theirs) flow' flow h.1 apart)
-zero_delivered n b own theirs flow apart other h = refl
+never_delivered_one : (n : NodeState) (b own theirs : ℕ) (e : Entry) → IsPlaced n e → delivered_message (stream_of b own theirs One) e ≡ None
+never_delivered_one n b own theirs (entry.Delivered peer numbers Zero message by) h = ap (λ t. if t then Some message else None) (flows_apart peer.word (node_word b) numbers (own, theirs) Zero One refl)
+never_delivered_one n b own theirs (entry.Delivered peer numbers One message by) h = absurd h.1
+never_delivered_one n b own theirs (entry.Delivered peer numbers Broadcast message by) h = ap (λ t. if t then Some message else None) (flows_apart peer.word (node_word b) numbers (own, theirs) Broadcast One refl)
+never_delivered_one n b own theirs other h = refl
 
 -- ---- the packets
 
@@ -160,81 +168,121 @@ none_of None is = refl
 none_of (Some x) is = absurd cc
 
 -- nothing is given but by a neighbour
-delivered_none : (old new : List Entry) (n : NodeState) (s : NodeStep) (b own theirs : ℕ) (flow : Flow) → neighbour_of n b ≡ None → All (IsPlaced n) s.inside → new ≡ old ++ step_entries s
+pub delivered_none : (old new : List Entry) (n : NodeState) (s : NodeStep) (b own theirs : ℕ) (flow : Flow) → is_some (neighbour_of n b) ≡ false → All (IsPlaced n) s.inside → new ≡ old ++ step_entries s
     → delivered new (stream_of b own theirs flow) ≡ delivered old (stream_of b own theirs flow)
-delivered_none old new n s b own theirs flow alone placed is = delivered_stays old new s (stream_of b own theirs flow) (IsPlaced n) is (never_delivered n b own theirs flow alone) placed
+delivered_none old new n s b own theirs flow alone placed is =
+    delivered_stays old new s (stream_of b own theirs flow) (IsPlaced n) is (never_delivered n b own theirs flow (none_of (neighbour_of n b) alone)) placed
+
+-- nothing is accepted or given in flow One
+pub accepted_one : (old new : List Entry) (n : NodeState) (s : NodeStep) (b own theirs : ℕ) → All (IsPlaced n) s.inside → new ≡ old ++ step_entries s → accepted new (stream_of b own theirs One) ≡ accepted old (stream_of b own theirs One)
+accepted_one old new n s b own theirs placed is = accepted_stays old new s (stream_of b own theirs One) (IsPlaced n) is (never_accepted_one n b own theirs) placed
+
+pub delivered_one : (old new : List Entry) (n : NodeState) (s : NodeStep) (b own theirs : ℕ) → All (IsPlaced n) s.inside → new ≡ old ++ step_entries s → delivered new (stream_of b own theirs One) ≡ delivered old (stream_of b own theirs One)
+delivered_one old new n s b own theirs placed is = delivered_stays old new s (stream_of b own theirs One) (IsPlaced n) is (never_delivered_one n b own theirs) placed
 
 -- ---- the messages
 
--- What came to a stream: nothing in another flow than Zero.
-pub record Gains (flow : Flow) (P : Message → Type 0) (old new : List Message) : Type 0 where
+-- what came to a stream
+pub record Gains (P : Message → Type 0) (old new : List Message) : Type 0 where
   pub more : List Message
   pub is : new ≡ old ++ more
   pub all : Each P more
-  pub zero : flow ≢ Zero → more ≡ []
 
-no_gain : (flow : Flow) (P : Message → Type 0) (old new : List Message) → new ≡ old → Gains flow P old new
-no_gain flow P old new same = record { more = []; is = same ∙ sym (append-nil old); all = Each-none P; zero = λ other. refl }
+-- so each of its messages is one where each was before
+pub gained : (P : Message → Type 0) (old new : List Message) → Gains P old new → Each P old → Each P new
+gained P old new g h = subst (Each P) (sym g.is) (Each-append P old g.more h g.all)
+
+no_gain : (P : Message → Type 0) (old new : List Message) → new ≡ old → Gains P old new
+no_gain P old new same = record { more = []; is = same ∙ sym (append-nil old); all = Each-none P }
 
 each_chosen : (P : Message → Type 0) (t : Bool) (ms : List Message) → Each P ms → Each P (if t then ms else [])
 each_chosen P true ms h = h
 each_chosen P false ms h = Each-none P
 
-other_flow : (flow : Flow) (t : Bool) (ms : List Message) → flow ≢ Zero → (if flow_eq flow Zero && t then ms else []) ≡ []
-other_flow flow t ms other = elim (cases_Bool (flow_eq flow Zero)) [
-  | inl is ↦ absurd (other (flow_eq_true flow Zero is))
-  | inr is ↦ ap (λ b. if b && t then ms else []) is
-]
-
-gain : (flow : Flow) (P : Message → Type 0) (old new ms : List Message) (c seen own theirs : ℕ) → Each P ms → new ≡ old ++ come_to c seen ms own theirs flow → Gains flow P old new
-gain flow P old new ms c seen own theirs all is = record {
-  more = come_to c seen ms own theirs flow;
+gain : (P : Message → Type 0) (old new ms : List Message) (c seen own theirs : ℕ) → Each P ms → new ≡ old ++ come_to c seen ms own theirs Zero → Gains P old new
+gain P old new ms c seen own theirs all is = record {
+  more = come_to c seen ms own theirs Zero;
   is = is;
-  all = each_chosen P (flow_eq flow Zero && ((own == c) && (theirs == seen))) ms all;
-  zero = λ other. other_flow flow ((own == c) && (theirs == seen)) ms other;
+  all = each_chosen P ((own == c) && (theirs == seen)) ms all;
 }
 
-each_sendable : (own : ℕ) (ms : List Message) → All (IsSendable own) ms → Each (IsSendable own) ms
-each_sendable own [] h = Each-none (IsSendable own)
-each_sendable own (m ∷ ms) h = one_more own m ms (All-head (IsSendable own) m ms h) (each_sendable own ms (All-tail (IsSendable own) m ms h))
+-- what is sent to one node alone may be name items
+said_alone : (own : ℕ) (m : Message) → IsSendable own m → IsSaid Zero own m
+said_alone own m h = record { sendable = h; stays = refl }
 
--- in a flow that is Zero, or isn't
-by_flow : (flow : Flow) (P : Message → Type 0) (old new : Flow → List Message) → Gains Zero P (old Zero) (new Zero) → (flow_eq flow Zero ≡ false → new flow ≡ old flow) → Gains flow P (old flow) (new flow)
-by_flow flow P old new zero others = elim (cases_Bool (flow_eq flow Zero)) [
-  | inl is ↦ subst (λ f. Gains f P (old f) (new f)) (sym (flow_eq_true flow Zero is)) zero
-  | inr apart ↦ no_gain flow P (old flow) (new flow) (others apart)
-]
+each_said : (own : ℕ) (ms : List Message) → All (IsSendable own) ms → Each (IsSaid Zero own) ms
+each_said own [] h = Each-none (IsSaid Zero own)
+each_said own (m ∷ ms) h =
+    Each-append (IsSaid Zero own) (m ∷ []) ms (Each-one (IsSaid Zero own) m (said_alone own m (All-head (IsSendable own) m ms h))) (each_said own ms (All-tail (IsSendable own) m ms h))
 
-pub turn_accepts : (old new : List Entry) (n n' : NodeState) (bytes : List ℕ) (s : NodeStep) (frames : List Outgoing) (b own theirs : ℕ) (flow : Flow) → NodeTurn n n' bytes s frames → new ≡ old ++ step_entries s
-    → Gains flow (IsSendable n.own) (accepted old (stream_of b own theirs flow)) (accepted new (stream_of b own theirs flow))
-turn_accepts old new n n' bytes s frames b own theirs flow t is =
-    let p = t.turns b in
-    by_flow flow (IsSendable n.own) (λ f. accepted old (stream_of b own theirs f)) (λ f. accepted new (stream_of b own theirs f))
-    (gain Zero (IsSendable n.own) (accepted old (stream_of b own theirs Zero)) (accepted new (stream_of b own theirs Zero)) p.messages p.turn.put.contact p.turn.put.seen own theirs (each_sendable n.own p.messages p.sendable)
-    (accepted_grows old new s b (map (accepted_entry Zero b p.turn.put) p.messages) own theirs is p.accepted ∙ ap (λ ms. accepted old (stream_of b own theirs Zero) ++ ms) (accepted_holds b p.turn.put p.messages own theirs Zero)))
-    (λ apart. accepted_stays old new s (stream_of b own theirs flow) (IsPlaced n) is (zero_accepted n b own theirs flow apart) t.placed)
-
--- it was given nothing but by a neighbour
-pub turn_delivers : (old new : List Entry) (a : ℕ) (n n' : NodeState) (bytes : List ℕ) (s : NodeStep) (frames : List Outgoing) (b own theirs : ℕ) (flow : Flow) (t : NodeTurn n n' bytes s frames) → AreBrought a n n' bytes s frames t
-    → (is_some (neighbour_of n b) ≡ true → IsNumber b × (b ≢ a)) → new ≡ old ++ step_entries s
-    → (g : Gains flow (IsSendable (node_word b)) (delivered old (stream_of b own theirs flow)) (delivered new (stream_of b own theirs flow))) × ((g.more ≡ []) ⊎ (is_some (neighbour_of n b) ≡ true))
-unfolding no_gain
-turn_delivers old new a n n' bytes s frames b own theirs flow t brings other is = case (is_some (neighbour_of n b)) refl
+-- the message that was cast, where one was
+cast_said : (n n' : NodeState) (bytes : List ℕ) (s : NodeStep) (frames : List Outgoing) (b own theirs : ℕ) → (t : NodeTurn n n' bytes s frames)
+    → Each (IsSaid Broadcast n.own) (accepted (cast_told b (pair_with n b) t.cast) (stream_of b own theirs Broadcast))
+cast_said n n' bytes s frames b own theirs t = by t.cast t.sent
   where
-    Given : Type 0
-    Given = (g : Gains flow (IsSendable (node_word b)) (delivered old (stream_of b own theirs flow)) (delivered new (stream_of b own theirs flow))) × ((g.more ≡ []) ⊎ (is_some (neighbour_of n b) ≡ true))
+    P : Message → Type 0
+    P = IsSaid Broadcast n.own
 
-    case : (known : Bool) → is_some (neighbour_of n b) ≡ known → Given
-    case false alone = (no_gain flow (IsSendable (node_word b)) (delivered old (stream_of b own theirs flow)) (delivered new (stream_of b own theirs flow)) (delivered_none old new n s b own theirs flow (none_of (neighbour_of n b) alone) t.placed is), inl refl)
+    nothing : Each P (accepted [] (stream_of b own theirs Broadcast))
+    nothing = subst (Each P) (sym (accepted_nil (stream_of b own theirs Broadcast))) (Each-none P)
+
+    met : (m : Message) (o : Option (ℕ × ℕ)) → P m → Each P (accepted (option_to_list (option_map (λ numbers. entry.Accepted (addr_of b) numbers Broadcast m) o)) (stream_of b own theirs Broadcast))
+    met m None h = nothing
+    met m (Some numbers) h = subst (Each P) (sym (entry_told b own theirs numbers m)) (each_chosen P ((numbers.0 == own) && (numbers.1 == theirs)) (m ∷ []) (Each-one P m h))
+
+    by : (o : Option Message) → IsSent n.own t.deeds o → Each P (accepted (cast_told b (pair_with n b) o) (stream_of b own theirs Broadcast))
+    by None sent = nothing
+    by (Some m) sent = met m (contact_between (pair_with n b)) (record { sendable = sent.0; stays = cast_stays n.own n.casting m sent.0 (subst (λ ds. AreLawful ds n.casting) sent.1 t.lawful) })
+
+-- a turn adds messages that the node can send
+pub turn_accepts : (old new : List Entry) (n n' : NodeState) (bytes : List ℕ) (s : NodeStep) (frames : List Outgoing) (b own theirs : ℕ) (flow : Flow) → NodeTurn n n' bytes s frames → new ≡ old ++ step_entries s
+    → Gains (IsSaid flow n.own) (accepted old (stream_of b own theirs flow)) (accepted new (stream_of b own theirs flow))
+turn_accepts old new n n' bytes s frames b own theirs Zero t is =
+    let p = t.turns b in
+    gain (IsSaid Zero n.own) (accepted old (stream_of b own theirs Zero)) (accepted new (stream_of b own theirs Zero)) p.messages p.turn.put.contact p.turn.put.seen own theirs (each_said n.own p.messages p.sendable)
+    (accepted_grows old new s b (map (accepted_entry Zero b p.turn.put) p.messages) own theirs is p.accepted ∙ ap (λ ms. accepted old (stream_of b own theirs Zero) ++ ms) (accepted_holds b p.turn.put p.messages own theirs Zero))
+turn_accepts old new n n' bytes s frames b own theirs One t is =
+    no_gain (IsSaid One n.own) (accepted old (stream_of b own theirs One)) (accepted new (stream_of b own theirs One)) (accepted_one old new n s b own theirs t.placed is)
+turn_accepts old new n n' bytes s frames b own theirs Broadcast t is = record {
+  more = accepted (cast_told b (pair_with n b) t.cast) (stream_of b own theirs Broadcast);
+  is = cast_then old new s b own theirs (cast_told b (pair_with n b) t.cast) is (t.casts b).accepted;
+  all = cast_said n n' bytes s frames b own theirs t;
+}
+
+-- what was given by another node in flow Zero are messages that it can send
+pub turn_delivers : (old new : List Entry) (a : ℕ) (n n' : NodeState) (bytes : List ℕ) (s : NodeStep) (frames : List Outgoing) (b own theirs : ℕ) (t : NodeTurn n n' bytes s frames) → AreBrought a n n' bytes s frames t
+    → (is_some (neighbour_of n b) ≡ true → IsNumber b × (b ≢ a)) → new ≡ old ++ step_entries s
+    → Gains (IsSendable (node_word b)) (delivered old (stream_of b own theirs Zero)) (delivered new (stream_of b own theirs Zero))
+turn_delivers old new a n n' bytes s frames b own theirs t brings other is = case (is_some (neighbour_of n b)) refl
+  where
+    P : Message → Type 0
+    P = IsSendable (node_word b)
+
+    case : (known : Bool) → is_some (neighbour_of n b) ≡ known → Gains P (delivered old (stream_of b own theirs Zero)) (delivered new (stream_of b own theirs Zero))
+    case false alone = no_gain P (delivered old (stream_of b own theirs Zero)) (delivered new (stream_of b own theirs Zero)) (delivered_none old new n s b own theirs Zero alone t.placed is)
     case true there =
         let p = t.turns b in
         let x = pair_with n b in
         let peer = other there in
-        let given = brings b peer.0 peer.1 in (
-          by_flow flow (IsSendable (node_word b)) (λ f. delivered old (stream_of b own theirs f)) (λ f. delivered new (stream_of b own theirs f))
-              (gain Zero (IsSendable (node_word b)) (delivered old (stream_of b own theirs Zero)) (delivered new (stream_of b own theirs Zero)) (messages_given (opened_in p.turn.first.given)) x.contact x.seen own theirs
-              (given_messages (node_word b) (opened_in p.turn.first.given) given.whole given.known).sendable
-              (delivered_grows old new s b (given_entries Zero b x p.turn.first.given) own theirs is p.delivered ∙ ap (λ ms. delivered old (stream_of b own theirs Zero) ++ ms) (given_holds b x p.turn.first.given own theirs Zero)))
-              (λ apart. delivered_stays old new s (stream_of b own theirs flow) (IsPlaced n) is (zero_delivered n b own theirs flow apart) t.placed),
-          inr there,
-        )
+        let given = brings b peer.0 peer.1 in
+        gain P (delivered old (stream_of b own theirs Zero)) (delivered new (stream_of b own theirs Zero)) (messages_given (opened_in p.turn.first.given)) x.contact x.seen own theirs
+        (given_messages (node_word b) (opened_in p.turn.first.given) given.whole given.known).sendable
+        (delivered_grows old new s b (given_entries Zero b x p.turn.first.given) own theirs is p.delivered ∙ ap (λ ms. delivered old (stream_of b own theirs Zero) ++ ms) (given_holds b x p.turn.first.given own theirs Zero))
+
+-- nothing is given in another contact than the pair has
+pub delivered_apart : (old new : List Entry) (n n' : NodeState) (bytes : List ℕ) (s : NodeStep) (frames : List Outgoing) (b own theirs : ℕ) (flow : Flow) (t : NodeTurn n n' bytes s frames)
+    → ((own == (pair_with n b).contact) && (theirs == (pair_with n b).seen)) ≡ false → new ≡ old ++ step_entries s → delivered new (stream_of b own theirs flow) ≡ delivered old (stream_of b own theirs flow)
+delivered_apart old new n n' bytes s frames b own theirs Zero t apart is =
+    let given = (t.turns b).turn.first.given in
+    delivered_grows old new s b (given_entries Zero b (pair_with n b) given) own theirs is (t.turns b).delivered
+    ∙ ap (λ ms. delivered old (stream_of b own theirs Zero) ++ ms) (given_apart Zero Zero b (pair_with n b) given own theirs apart) ∙ append-nil (delivered old (stream_of b own theirs Zero))
+delivered_apart old new n n' bytes s frames b own theirs One t apart is = delivered_one old new n s b own theirs t.placed is
+delivered_apart old new n n' bytes s frames b own theirs Broadcast t apart is = by (t.casts b).heard
+  where
+    none : (es : List Entry) → filter (is_cast_from b) s.inside ≡ es → delivered es (stream_of b own theirs Broadcast) ≡ [] → delivered new (stream_of b own theirs Broadcast) ≡ delivered old (stream_of b own theirs Broadcast)
+    none es of_peer nothing =
+        heard_then old new s b own theirs es is of_peer ∙ ap (λ ms. delivered old (stream_of b own theirs Broadcast) ++ ms) nothing ∙ append-nil (delivered old (stream_of b own theirs Broadcast))
+
+    by : HearsCasts n n' bytes s t.deeds b (t.turns b).turn.first.course.changes → delivered new (stream_of b own theirs Broadcast) ≡ delivered old (stream_of b own theirs Broadcast)
+    by (hears_none h) = none [] h.delivered (delivered_nil (stream_of b own theirs Broadcast))
+    by (hears_one h) = none (given_entries Broadcast b (pair_with n b) h.given) h.delivered (given_apart Broadcast Broadcast b (pair_with n b) h.given own theirs apart)

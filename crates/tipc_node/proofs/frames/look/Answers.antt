@@ -3,7 +3,7 @@ use Rattle.std.specs.Prelude.{slice_index_or}
 use Rattle.tipc_types.specs.declared.link_words.Why.TheVariants as why
 use Rattle.tipc_header.specs.Spelling.{view}
 use Rattle.tipc_node.specs.Nodes.{stop_by_kind}
-use Rattle.tipc_node.proofs.work.Stops.{by_sender, kind_is, looked_at, mended_two, opened_at, sender_own, stop_header}
+use Rattle.tipc_node.proofs.work.Stops.{by_sender, cast_low, kind_is, looked_at, mended_two, opened_at, sender_own, stop_header}
 use Rattle.tipc_node.proofs.frames.look.Goals as goal
 
 pub returns-in-Err-clause-stopped : goal.returns-in-Err-clause-stopped
@@ -48,3 +48,6 @@ returns-clause-kind c =
 
 pub stop_by_kind-requires : goal.stop_by_kind-requires
 stop_by_kind-requires c = mended_two c.args.mended c.args.bearer (sym c.is_mended_on.ensures ∙ c.if-not-is_mended_on.false)
+
+pub returns-clause-boot : goal.returns-clause-boot
+returns-clause-boot c = λ casts. cast_low c.in-Some.opened.first c.in-Ok.packet.header (sym c.kind_of-kind.ensures ∙ casts)

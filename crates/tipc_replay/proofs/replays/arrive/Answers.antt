@@ -10,7 +10,7 @@ use Rattle.tipc_replay.proofs.pairs.Outward.{boxed_out}
 use Rattle.tipc_replay.proofs.replays.arrive.Goals as goal
 
 pub find-requires-clause-senders : goal.find-requires-clause-senders
-find-requires-clause-senders c = senders_of c.args.members.now.items c.args.air.now c.requires.sound c.args.bearer
+find-requires-clause-senders c = senders_of c.args.members.now.items c.args.air.now c.requires.steady.sound c.args.bearer
 
 pub emit-lost-requires : goal.emit-lost-requires
 emit-lost-requires c =
@@ -21,7 +21,7 @@ emit-lost-requires c =
     let arrives = subst (λ old. unarrived old c.args.air.now c.args.node c.args.bearer c.args.place ≡ None) c.deref.ensures.value found.1 in
     record {
       number = there_settled ms c.args.node c.requires.settled c.requires.there;
-      outward = boxed_out ms _ c.args.air.now _ (Arrive c.args.node c.args.bearer c.args.place) f.frame _ _ _ c.requires.sound (λ m was. (f, found.0, arrives, refl)) c.new-out.ensures did;
+      outward = boxed_out ms _ c.args.air.now _ (Arrive c.args.node c.args.bearer c.args.place) f.frame _ _ _ c.requires.steady (λ m was. (f, found.0, arrives, refl)) c.new-out.ensures did;
     }
 
 pub returns-clause-arrives : goal.returns-clause-arrives
@@ -32,4 +32,4 @@ returns-clause-arrives c =
     let arrives = subst (λ ms. unarrived ms c.args.air.now c.args.node c.args.bearer c.args.place ≡ None) c.deref.ensures.value found.1 in
     let met_is = c.met_sender-met.ensures ∙ ap (λ bytes. met_sender c.deref-2.result.now c.args.node (sender_of bytes)) c.as_slice-frame.ensures in
     arrival_of _ _ _ _ _ _ _ _ f _ _ found.0 arrives
-    (happens_sender _ _ _ _ _ _ _ _ _ _ _ _ _ _ _ _ c.requires.sound c.deref-2.ensures.value met_is c.deref-3.ensures.value c.new-out.ensures did c.emit-lost.ensures)
+    (happens_sender _ _ _ _ _ _ _ _ _ _ _ _ _ _ _ _ c.requires.steady.sound c.deref-2.ensures.value met_is c.deref-3.ensures.value c.new-out.ensures did c.emit-lost.ensures)

@@ -6,5 +6,5 @@ turn-requires g c = record {
   next = c.requires.next;
   other = c.in_default.not-Arrive;
   settled = c.requires.settled;
-  sound = c.requires.sound;
+  steady = c.requires.steady;
 }

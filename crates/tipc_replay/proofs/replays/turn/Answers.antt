@@ -22,7 +22,7 @@ emit-lost-requires g c =
     record {
       number = subst (λ n. (1 ≤ n) × (n ≤ 32)) (sym c.node-node.ensures) (there_settled ms at c.requires.settled (at_its_node ms c.args.event c.requires.other c.requires.can));
       outward = subst (λ n. All (IsOut n) (frames_leaving c.happen_at.new.out)) (sym c.node-node.ensures)
-          (boxed_out ms _ c.args.air.now _ c.args.event [] _ _ _ c.requires.sound (is_ready ms c.args.air.now c.args.event c.requires.other c.requires.next) c.new-out.ensures c.in_ok-answer.ensures.did);
+          (boxed_out ms _ c.args.air.now _ c.args.event [] _ _ _ c.requires.steady (is_ready ms c.args.air.now c.args.event c.requires.other c.requires.next) c.new-out.ensures c.in_ok-answer.ensures.did);
     }
 
 pub returns-clause-happens : goal.returns-clause-happens

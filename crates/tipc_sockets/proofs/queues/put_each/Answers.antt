@@ -12,21 +12,23 @@ use Rattle.tipc_sockets.proofs.queues.put_each.Goals as goal
 pub loop-port-preserved : goal.loop-port-preserved
 loop-port-preserved c =
     let ports = c.args.ports.now in
-    let m = c.args.message.now in
     let i = c.loop-port.port-index in
     let h = c.loop-port.invariant in
-    let made = c.loop-port.made.items in
     let queues = c.loop-port.queues.entries in
     let port = get_or ports i 0 in
-    let count : length made ≡ length c.pop.new.self.items + 1 = ap (λ (ms : List Message). length ms) c.in-Some.ensures.items ∙ length-append c.pop.new.self.items (c.in-Some.copy ∷ []) in
-    let all = subst (λ (ms : List Message). All (λ x. x ≡ m) ms) c.in-Some.ensures.items h.1 in
-    let within = length-append c.pop.new.self.items (c.in-Some.copy ∷ []) in
-    let copied : c.in-Some.copy ≡ m = sym (get_or-append-add c.pop.new.self.items (c.in-Some.copy ∷ []) 0 m) ∙ all (length c.pop.new.self.items + 0) m (omega (arith, within)) in
-    let put : c.put.new.queues.entries ≡ queued m queues port = c.put.ensures ∙ ap (λ (x : Message). queued x queues port) copied in (
+    let copy = c.in-Some.copy in
+    let left = c.pop.new.self.items in
+    let count : length c.loop-port.left.items ≡ length left + 1 = ap (λ (ms : List Message). length ms) c.in-Some.ensures.items ∙ length-append left (copy ∷ []) in
+    let within = length-append left (copy ∷ []) in (
       omega (arith, count, h.0),
-      subst (λ (ms : List Message). All (λ x. x ≡ m) ms) (sym c.in-Some.ensures.rest) (All-take (λ (x : Message). x ≡ m) _ made h.1),
-      put ∙ ap (λ (qs : List (ℕ × List Message)). queued m qs port) h.2 ∙ queued_at_next m c.args.queues.now.entries ports i 0 c.loop-port-test.true,
+      (λ m same.
+          let all = subst (λ (ms : List Message). All (λ x. x ≡ m) ms) c.in-Some.ensures.items (h.1 m same).0 in
+          let copied : copy ≡ m = sym (get_or-append-add left (copy ∷ []) 0 m) ∙ all (length left + 0) m (omega (arith, within)) in
+          let put : c.put.new.queues.entries ≡ queued m queues port = c.put.ensures ∙ ap (λ (x : Message). queued x queues port) copied in (
+            subst (λ (ms : List Message). All (λ x. x ≡ m) ms) (sym c.in-Some.ensures.rest) (All-take (λ (x : Message). x ≡ m) _ c.loop-port.left.items (h.1 m same).0),
+            put ∙ ap (λ (qs : List (ℕ × List Message)). queued m qs port) (h.1 m same).1 ∙ queued_at_next m c.args.queues.now.entries ports i 0 c.loop-port-test.true,
+          )),
       (λ k d above within.
           let apart : get_or ports k d ≡ port → ⊥ = (λ e. omega (arith, e, get_or_default ports i d 0 c.loop-port-test.true, c.requires.rising i k d (omega (arith, above)) within)) in
-          ap may_wait (ap (λ (qs : List (ℕ × List Message)). lookup (nat_eq (get_or ports k d)) qs) put ∙ lookup_elsewhere port (get_or ports k d) queues _ apart) ∙ h.3 k d (omega (arith, above)) within),
+          ap may_wait (ap (λ (qs : List (ℕ × List Message)). lookup (nat_eq (get_or ports k d)) qs) c.put.ensures ∙ lookup_elsewhere port (get_or ports k d) queues _ apart) ∙ h.2 k d (omega (arith, above)) within),
     )

@@ -1,19 +1,14 @@
-use Rattle.std.proofs.Common.{subst, sym}
-use Rattle.std.specs.Prelude.{filter}
-use Rattle.std.proofs.lemmas.Result.{IfOk-weaker}
-use Rattle.tipc_pair.specs.Contacts.{is_of_contact}
-use Rattle.tipc_pair.specs.Facing.{in_contact}
-use Rattle.tipc_node.specs.Casting.{IsContactChange}
-use Rattle.tipc_node.specs.declared.neighbours.Upkeep.TheVariants as upkeep
-use Rattle.tipc_node.proofs.work.Neighbouring.{part_told}
+use Rattle.std.proofs.Common.{ap, ◌∙◌}
+use Rattle.std.specs.Prelude.{List}
+use Rattle.tipc_pair.specs.declared.transitions.Transition.{Transition}
+use Rattle.tipc_node.specs.declared.neighbours.Neighbour.{Neighbour}
+use Rattle.tipc_node.specs.Neighbours.{casts_after, course_of, with_casts, with_pair}
 use Rattle.tipc_node.proofs.neighbours.Neighbour.take_part.Goals as goal
 
-pub returns-in-Cut-clause-contact : goal.returns-in-Cut-clause-contact
-returns-in-Cut-clause-contact c =
+pub returns-clause-after : goal.returns-clause-after
+returns-clause-after c =
     let x = c.args.self.now in
-    IfOk-weaker c.cut.result _ _ (λ changes is. subst (λ cs. IsContactChange (in_contact x.pair) (filter is_of_contact cs)) (sym is) (part_told (upkeep.Cut c.in-Cut.bearer) c.args.shown x c.sound.ensures.pair)) c.cut.ensures.changes
-
-pub returns-in-Tick-clause-contact : goal.returns-in-Tick-clause-contact
-returns-in-Tick-clause-contact c =
-    let x = c.args.self.now in
-    IfOk-weaker c.tick.result _ _ (λ changes is. subst (λ cs. IsContactChange (in_contact x.pair) (filter is_of_contact cs)) (sym is) (part_told upkeep.Tick c.args.shown x c.sound.ensures.pair)) c.tick.ensures.changes
+    let course = course_of c.args.upkeep c.args.shown x in
+    c.begin_anew.ensures
+    ∙ ap (λ (y : Neighbour). with_casts y (casts_after y.casts c.as_slice.result.now)) c.in_ok-changes.ensures.after
+    ∙ ap (λ (cs : List Transition). with_casts (with_pair x course.pair) (casts_after x.casts cs)) (c.as_slice.ensures ∙ c.in_ok-changes.ensures.changes)

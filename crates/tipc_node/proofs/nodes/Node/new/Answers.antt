@@ -1,4 +1,5 @@
-use Rattle.std.proofs.Common.{◌∙◌, ap, sym}
+use Rattle.std.proofs.Common.{◌∙◌, ap, subst, sym}
+use Rattle.tipc_types.specs.Address.{IsNodeWord}
 use Rattle.tipc_sockets.specs.SocketTables.{no_sockets}
 use Rattle.tipc_broadcast.specs.Casting.{booted}
 use Rattle.tipc_node.specs.Discovery.{nobody_heard}
@@ -15,7 +16,7 @@ invariant_of-result c =
     let none = made.empty.0 ∙ ap (λ w. no_sockets w c.args.boot) (sym made.own.0) ∙ ap (no_sockets n.own) (sym made.own.1) in
     let unheard = made.unheard ∙ ap nobody_heard (sym made.own.0) in
     let fresh = made.casting ∙ ap (λ w. booted w c.args.boot) (sym made.own.0) ∙ ap (booted n.own) (sym made.own.1) in
-    held_of n (new_kept n c.sound.ensures.epochs none c.sound.ensures.sockets made.empty.1 made.alone unheard fresh)
+    held_of n (new_kept n (subst IsNodeWord (sym made.own.0) c.requires.node) c.sound.ensures.epochs none c.sound.ensures.sockets made.empty.1 made.alone unheard fresh)
 
 pub returns-clause-told : goal.returns-clause-told
 returns-clause-told c =

@@ -10,12 +10,12 @@ use Rattle.tipc_node.proofs.nodes.Node.perform.Goals as goal
 
 pub invariant_of-self : goal.invariant_of-self
 invariant_of-self g c =
-    call_kept c.self.inside.core c.perform-answer.new.self c.args.by c.args.call c.args.out.now c.perform-answer.new.out c.perform-answer.result c.self.invariant c.sound.ensures.sockets c.sound.ensures.wide c.requires.can c.ranged.ensures c.perform-answer.ensures.ok (same_call c.self.inside.core c.perform-answer.new.self c.perform-answer.result _ _ c.perform-answer.ensures.err)
+    call_kept c.self.inside.core c.perform-answer.new.self c.args.by c.args.call c.args.out.now c.perform-answer.new.out c.perform-answer.result c.self.invariant c.sound.ensures.sockets c.sound.ensures.wide c.sound.ensures.sending c.requires.can c.ranged.ensures c.perform-answer.ensures.ok (same_call c.self.inside.core c.perform-answer.new.self c.perform-answer.result _ _ c.perform-answer.ensures.err)
 
 pub returns-clause-ok : goal.returns-clause-ok
 returns-clause-ok g c =
     subst (λ n. IfOk c.perform-answer.result (Performed n c.args.by c.args.call c.perform-answer.new.self c.args.out.now c.perform-answer.new.out)) c.self.view_is
-    (call_performed c.self.inside.core c.perform-answer.new.self c.args.by c.args.call c.args.out.now c.perform-answer.new.out c.perform-answer.result c.self.invariant c.sound.ensures.sockets c.sound.ensures.wide c.requires.can c.ranged.ensures c.perform-answer.ensures.ok)
+    (call_performed c.self.inside.core c.perform-answer.new.self c.args.by c.args.call c.args.out.now c.perform-answer.new.out c.perform-answer.result c.self.invariant c.sound.ensures.sockets c.sound.ensures.wide c.sound.ensures.sending c.requires.can c.ranged.ensures c.perform-answer.ensures.ok)
 
 pub returns-clause-picked : goal.returns-clause-picked
 returns-clause-picked g c =

@@ -1,0 +1,34 @@
+use Rattle.std.proofs.Common.{◌<◌, Some, None, length, sym, ap, ◌∙◌, arith}
+use Rattle.std.specs.Prelude.{slice_index_or, slice_set}
+use Rattle.tipc_node.specs.declared.neighbours.Neighbour.{Neighbour}
+use Rattle.tipc_node.specs.CastHearings.{with_joining}
+use Rattle.tipc_node.specs.Drafts.{DraftState}
+use Rattle.tipc_node.specs.Neighbours.{with_casts}
+use Rattle.tipc_node.specs.Works.{work_of}
+use Rattle.tipc_node.proofs.work.Drafting.{start_changed, start_kept}
+use Rattle.tipc_node.proofs.work.Hearings.{same_neighbour}
+use Rattle.tipc_node.proofs.work.Wayfaring.{read_at}
+use Rattle.tipc_node.proofs.drafts.Draft.begin_casts.Goals as goal
+
+pub returns-clause-begun : goal.returns-clause-begun
+returns-clause-begun c = λ x was.
+    let w = c.self.inside in
+    let xs = w.neighbours.items in
+    let peer = c.requires.peer in
+    let wide = c.self.invariant.1.wide in
+    let within : c.args.peer < length xs = omega (arith, peer, wide) in
+    let here = read_at xs c.args.peer c.index_mut.result.now c.in-Some.neighbour within c.index_mut.ensures.value c.in-Some.is in
+    let same = same_neighbour c.in-Some.neighbour x (sym here ∙ ap (λ (z : DraftState). slice_index_or z.work.neighbours c.args.peer None) c.self.view_is ∙ was) in
+    ap (λ (n : Neighbour). work_of (slice_set xs c.args.peer (Some (with_casts n c.args.casts))) w.sockets w.inside.items) same
+    ∙ ap (λ (z : DraftState). with_joining z.work c.args.peer x c.args.casts) c.self.view_is
+
+pub returns-clause-start : goal.returns-clause-start
+returns-clause-start c =
+    let w = c.self.inside in
+    start_changed c.args.self.now w.neighbours.items c.as_slice.result.now w.copies.items c.keep.new.copies.items w.sockets w.inside.items w.inside.items w.out w.out c.args.peer (Some (with_casts c.in-Some.neighbour c.args.casts))
+    c.self.view_is c.as_slice.ensures.value c.in_ok-keep.ensures.kept c.keep.ensures.same
+
+pub returns-in_err-keep-clause-start : goal.returns-in_err-keep-clause-start
+returns-in_err-keep-clause-start c =
+    let w = c.self.inside in
+    start_kept c.args.self.now w.neighbours.items c.as_slice.result.now w.copies.items c.keep.new.copies.items w.sockets w.inside.items w.inside.items w.out w.out c.self.view_is c.as_slice.ensures.value c.keep.ensures.same

@@ -1,0 +1,8 @@
+-- The STATEs among the frames of a turn.
+pub mod Reading
+pub mod Plain
+pub mod Shown
+pub mod InContact
+pub mod TurnSays
+pub mod PlainKept
+pub mod StatesArrive
