@@ -3,9 +3,9 @@
 how much memory it holds at the end, beside the bytes of the frames in its air. What a message costs where two links stand,
 beside one link; what a failover costs by the number of packets that it moves. What a message by name costs beside one
 by port; what a publication costs that every peer is told of; what a contact costs that begins with publications, and what
-a change costs that subscribers are told of.
+a change costs that subscribers are told of; and what a multicast costs, and how often it asks for memory.
 
-It runs the program that `rt ci` left in crates/tipc_sim/out, a failover under valgrind, and is no part of the gate.
+It runs the program that `rt ci` left in crates/tipc_sim/out, a failover and a multicast under valgrind, and is no part of the gate.
 """
 
 import os
@@ -108,6 +108,42 @@ def measure_subscribers(subscribers: int, publications: int) -> None:
         print(f"{subscribers} subscribers, a change that is {what}: {took * 1e6:.1f} microseconds more, {took / subscribers * 1e9:.0f} nanoseconds a subscriber")
 
 
+def allocations(script: str) -> int:
+    """How many times a script asks for memory, as valgrind counts them: the same in each run."""
+    words = ["valgrind", "--leak-check=no", PROGRAM, "run"]
+    told = subprocess.run(words, input=script.encode(), capture_output=True, check=True).stderr
+    return int(told.split(b"total heap usage: ")[1].split()[0].replace(b",", b""))
+
+
+def measure_multicasts(sockets: int) -> None:
+    """Prints how often one multicast asks for memory, and its arrival with the rest of a pump, where a member has so many sockets more:
+    neither copies anything, so they don't count."""
+    nodes = NODES + "publish 2 1 100 0 9 cluster 1\npump 0\n" + "socket 2\n" * sockets
+    send, pump = "send 1 1 cast 100 0 9 low =x\n", "pump 0\n"
+    sent = allocations(nodes + send * 2) - allocations(nodes + send)
+    heard = allocations(nodes + (send + pump) * 6) - allocations(nodes + (send + pump) * 5) - sent
+    print(f"a multicast, where a member has {sockets} sockets more: {sent} allocations, {heard} in the pump in which it arrives")
+
+
+def measure_members(members: int) -> None:
+    """Prints what a multicast to so many members costs until each has received it, beside as many messages by port, and beside one
+    message that is sent by port and so many that are received."""
+    numbers = range(2, members + 2)
+    nodes = "node 1\nsocket 1\n" + "".join(f"node {n}\nlink 1 {n} 0\nsocket {n}\npublish {n} 1 100 {n} {n} cluster {n}\n" for n in numbers)
+    nodes += "pump 0\nmark\n"
+    heard = "pump 0\nmark\n" + "".join(f"receive {n} 1\n" for n in numbers)
+    send = "send 1 1 port 2 1 low =x\n"
+    many = "".join(f"send 1 1 port {n} 1 low =x\n" for n in numbers) + heard
+
+    def each(lines: str) -> float:
+        return (instructions(nodes + lines * 30) - instructions(nodes + lines * 10)) / 20
+
+    cast, ports, sent = each("send 1 1 cast 100 0 99 low =x\n" + heard), each(many), each(send)
+    one = sent + members * (each(send + "pump 0\nmark\nreceive 2 1\n") - sent)
+    print(f"a multicast to {members} members: {cast:,.0f} instructions, {ports:,.0f} by port, "
+          f"{cast / one:.2f} times one that is sent and {members} that are received")
+
+
 def main() -> None:
     for count in (1_000, 10_000, 30_000, 65_540):
         measure(f"burst of {count} messages of 1 byte", f"burst 1 1 2 1 {count} =x\n", count, 1)
@@ -124,6 +160,10 @@ def main() -> None:
         measure_greeting(publications)
     for subscribers in (16, 256):
         measure_subscribers(subscribers, 10_000)
+    for sockets in (0, 200):
+        measure_multicasts(sockets)
+    for members in (1, 8, 31):
+        measure_members(members)
 
 
 if __name__ == "__main__":

@@ -24,7 +24,7 @@ import tracing
 TOP = pathlib.Path(__file__).resolve().parent.parent
 CHARTS = TOP / "docs" / "charts"
 PICTURE = TOP / "docs" / "picture.svg"
-STORED = ("a_service", "names_and_returns", "a_link_cut_under_load")
+STORED = ("a_service", "names_and_returns", "a_link_cut_under_load", "a_multicast_is_repaired")
 SVG = "{http://www.w3.org/2000/svg}"
 # A script of more lines, or of more rounds in one, is passed over.
 MOST_LINES, MOST_ROUNDS = 60, 50
