@@ -2,8 +2,6 @@
 #![tactic(auto)]
 
 #[cfg(test)]
-mod casting;
-#[cfg(test)]
 mod hearing;
 #[cfg(test)]
 mod promising;

@@ -18,7 +18,11 @@ const BAD_LINES: [(&[u8], u32, LineWhy); 11] = [
     (b"send 1 1 name 100 5 low", 24, LineWhy::End),
     (b"publish 1 1 100 0 9 world 1", 21, LineWhy::Word),
     (b"send 1 1 casts 200 6 7 low =m", 10, LineWhy::Word),
-    (b"send 1 1 cast 200 6 4294967296 low =m", 21, LineWhy::Number),
+    (
+        b"send 1 1 cast 200 6 4294967296 low =m",
+        21,
+        LineWhy::Number,
+    ),
     (b"send 1 1 cast 200 6 low =m", 21, LineWhy::Number),
     (b"repeat 2 send 1 1 cast 200 6 7 low", 35, LineWhy::End),
 ];
