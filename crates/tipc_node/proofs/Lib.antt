@@ -8,3 +8,4 @@ pub mod names
 pub mod Kept
 pub mod Keeping
 pub mod Promising
+pub mod Valid

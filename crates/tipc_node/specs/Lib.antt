@@ -17,4 +17,5 @@ pub mod Sockets
 pub mod Sure
 pub mod Telling
 pub mod Turns
+pub mod Valid
 pub mod Works

@@ -17,6 +17,7 @@ ghost use Rattle.tipc_node.specs.Nodes.{contact_with, end_with, is_mended_on, no
 ghost use Rattle.tipc_journal.specs.Room.{has_journal_room};
 ghost use Rattle.tipc_node.specs.Sharing.{SharesNames};
 ghost use Rattle.tipc_node.specs.Telling.{IsTold};
+ghost use Rattle.tipc_node.specs.Valid.{GrewByStep, IsValid};
 
 use crate::cores::Core;
 use crate::neighbours::Neighbour;
@@ -287,6 +288,8 @@ impl Node {
         out: &mut Outbox,
     ) -> Result<Arrival, NodeFault>
         ensures ok { IfOk result (λ a. Arrived self.old by bearer number frame.now self.new out.old out.new a) }
+        ensures grew { OnOk result (GrewByStep self.old.journal self.new.journal) }
+        ensures valid { IsValid self.new }
         ensures room { OnOk result (has_journal_room self.old.journal ≡ true) }
         ensures full { has_journal_room self.old.journal ≡ false → result ≡ Err NodeFault.JournalFull }
         ensures only { result ≡ Err NodeFault.JournalFull → has_journal_room self.old.journal ≡ false }

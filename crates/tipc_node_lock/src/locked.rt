@@ -283,7 +283,8 @@ impl<P: Pick> LockedNode<P> {
     }
 
     /// A frame arrives on a bearer as the next call of the pass's caller, under the number of frames that arrived before. It is kept behind
-    /// those, and the arrival stands in the pass, as the journal keeps it. Then messages move to the inboxes.
+    /// those, and the arrival stands in the pass, as the journal keeps it. Then messages move to the inboxes. Nothing is asked of the frame:
+    /// whatever its bytes are, the node behind it is valid, as [`tipc_node::Node::arrive`] promises and [`LockedNode::told`] keeps.
     ///
     /// # Errors
     ///
