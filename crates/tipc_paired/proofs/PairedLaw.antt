@@ -104,6 +104,7 @@ new_half x y h k = record {
   records = λ b. subst (λ w. IsRecords x.node w (y.wires b)) (sym (h.wires b)) (subst (λ v. IsRecords x.node unused v) (sym (k.wires b)) (unused_records x.node));
   epochs = λ b. subst (λ fs. IsEpochs x.node b fs y.told (x.wires b) (y.wires b)) (sym h.told) (subst (λ fs. IsEpochs x.node b [] fs (x.wires b) (y.wires b)) (sym k.told)
       (subst (λ w. IsEpochs x.node b [] [] w (y.wires b)) (sym (h.wires b)) (subst (λ v. IsEpochs x.node b [] [] unused v) (sym (k.wires b)) (unused_epochs x.node b))));
+  highest = λ b e is. absurd (let none : (x.wires b).end ≡ None = ap (λ (w : Wire). w.end) (h.wires b) in let wrong : ⊥ = cc in wrong);
   frames = λ i f there. absurd (let none = h.told in let wrong : ⊥ = cc in wrong);
 }
 

@@ -27,10 +27,10 @@ use Rattle.tipc_paired.proofs.wires.EpochsKept.{reached_on, records_on}
 use Rattle.tipc_paired.proofs.contacts.Mutual.{told_past}
 use Rattle.tipc_paired.proofs.wires.Sides.{ordered_still, peers_called, same_side}
 use Rattle.tipc_paired.proofs.wires.Turns.{call_turns, shown_to}
-use Rattle.tipc_paired.proofs.wires.WireDeeds.{agree_turned, wire_deed}
+use Rattle.tipc_paired.proofs.wires.WireDeeds.{agree_turned, high_still, wire_deed}
 use Rattle.tipc_paired.proofs.wires.Wires.{epoch_of_end, epoch_of_none, is_up_of, map_at, none_some, prefix_of_none, prefix_same, put_other, put_same, same_some, session_of_down, session_of_none}
 use Rattle.tipc_paired.specs.Deeds.{MayCall, ended_with, forgot_with, made_on, parted_view, restarted, risen_view}
-use Rattle.tipc_paired.specs.Paired.{ArePaired, IsEnd, IsFrame, IsNoHigher, IsNode, IsReached, IsRecordOf, IsRecords, IsWire, long_ago, untaken}
+use Rattle.tipc_paired.specs.Paired.{ArePaired, IsEnd, IsFrame, IsNoHigher, IsNode, IsReached, IsRecordOf, IsRecords, IsWire, WasTold, long_ago, untaken}
 use Rattle.tipc_paired.specs.Views.{Begun, Frame, IsApart, Node, View, Wire, epoch_in, epoch_on, er_of, es_of, fsm_in, notice_of, put_at, said_by, session_on, side_of, with_end, with_wire}
 
 -- ---- other ends, and nothing else done
@@ -55,6 +55,7 @@ pub record Rests (x y : View) (n : Node) (ends : ℕ → Option LinkEnd) : Type 
   pub unborn : (b epoch : ℕ) → epoch_on n ((rested x n ends).wires b) ≤ epoch → (x.wires b).begun epoch ≡ None
   pub named : (b k : ℕ) (f : Frame) → slice_get x.told k ≡ Some f → f.bearer ≡ b → boot_of (es_of f.bytes) ≡ n.boot → IsNoHigher ((rested x n ends).wires b) (er_of f.bytes)
   pub unheld : (b : ℕ) (e : LinkEnd) → ends b ≡ Some e → is_held e.fsm.state ≡ false
+  pub highest : (b : ℕ) (e : LinkEnd) → ends b ≡ Some e → WasTold y.told b e.fsm.highest
   pub peers : ArePeers (side_of (rested x n ends)) (said_by x) (side_of y) (said_by y)
   pub order : AreInOrder (side_of (rested x n ends)) (said_by x) (side_of y) (said_by y)
 
@@ -79,6 +80,7 @@ rests_paired x y n ends h m =
               kept = λ e r is has. (let at = m.kept b e is in let k = old.kept at.0 r at.1 (sym at.2 ∙ has) in record { takes = k.takes; holds = k.holds });
             }));
         records = m.records;
+        highest = m.highest;
         epochs = λ b. (
             let old = h.here.epochs b in
             record {
@@ -135,6 +137,13 @@ begun_none x y b epoch e h is least =
 pub mapped_end : (f : LinkEnd → LinkEnd) (o : Option LinkEnd) (e' : LinkEnd) → option_map f o ≡ Some e' → (e : LinkEnd) × (o ≡ Some e) × (f e ≡ e')
 mapped_end f None e' is = absurd (let wrong : ⊥ = cc in wrong)
 mapped_end f (Some e) e' is = (e, refl, (let same : f e ≡ e' = cc in same))
+
+-- link ends that became others, which took no other epoch
+mapped_high : (x y : View) (b : ℕ) (f : LinkEnd → LinkEnd) → ArePaired x y → ((e : LinkEnd) → (x.wires b).end ≡ Some e → (f e).fsm.highest ≡ e.fsm.highest) → (e' : LinkEnd) → option_map f (x.wires b).end ≡ Some e'
+    → WasTold y.told b e'.fsm.highest
+mapped_high x y b f h same e' is =
+    let at = mapped_end f (x.wires b).end e' is in
+    high_still x y b at.0 (f at.0) h at.1 (same at.0 at.1) e' (ap Some at.2)
 
 -- link ends that became others, with the same records, which took no other epoch
 pub mapped_records : (n n' : Node) (w w' v : Wire) (f : LinkEnd → LinkEnd) → IsRecords n w v → n'.boot ≡ n.boot → w'.end ≡ option_map f w.end → ((epoch : ℕ) → w'.got epoch ≡ w.got epoch)
@@ -228,6 +237,7 @@ parted_paired x y h goes_on =
       unheld = λ b e' is. (
           let at = mapped_end (ended_with contact) (x.wires b).end e' is in
           ap (λ (d : LinkEnd). is_held d.fsm.state) (sym at.2) ∙ ap (λ (f : Fsm). is_held f.state) (ended-is at.0.fsm));
+      highest = λ b e' is. mapped_high x y b (ended_with contact) h (λ e there. ended_high e) e' is;
       peers = peers;
       order = ordered_still (acted (side_of x) ContactEnded) (side_of y) (said_by x) (said_by y) (side_of (rested x n ends)).ends order;
     })
@@ -290,6 +300,7 @@ fell x y b e call h is may m =
       end = λ k there. (let one : d ≡ k = cc in subst (IsEnd x.node b) one (fell_end x.node b e o.after (h.here.ends b e is) m.own m.peer m.highest m.down));
       wire = none_wire x.node.own w (y.wires b) d (h.here.wires b) m.down (λ r has. (h.here.wires b).kept e r is has);
       records = records_on x.node w w' (y.wires b) e d (h.here.records b) is refl (λ epoch. refl) refl (omega arith);
+      highest = high_still x y b e d h is m.highest;
       epochs = record {
         unborn = λ epoch least. (let low = least.0 in begun_none x y b epoch e h is (omega arith));
         some = old.some;
@@ -381,6 +392,7 @@ shows_paired x y number h higher fits apart shown =
       unheld = λ b e' is. (
           let at = mapped_end (forgot_with number) (x.wires b).end e' is in
           ap (λ (d : LinkEnd). is_held d.fsm.state) (sym at.2) ∙ ap (λ (f : Fsm). is_held f.state) (forgotten-is at.0.fsm (apart b at.0 at.1)));
+      highest = λ b e' is. mapped_high x y b (forgot_with number) h (λ e there. forgot_high e (apart b e there)) e' is;
       peers = peers;
       order = ordered_still (acted (side_of x) (HigherShown number)) (side_of y) (said_by x) (said_by y) (side_of (rested x n ends)).ends order;
     })
@@ -414,6 +426,7 @@ makes_paired x y b h none =
         reached = λ epoch. reached_on x.node.boot w w' (y.wires b) epoch ((h.here.records b).reached epoch) refl (λ k r is has. absurd (none_some k _ none is));
         below = λ k r is has. (let one : d ≡ k = cc in absurd (none_some r _ (ap record_of (sym one)) has));
       };
+      highest = λ k there. (let one : d ≡ k = cc in inl (ap (λ (u : LinkEnd). u.fsm.highest) (sym one)));
       epochs = record {
         unborn = λ epoch least. (let low = least.0 in old.unborn epoch ((let few : epoch_on x.node w ≤ epoch = omega arith in few), λ s on. absurd (none_some s _ (session_of_none w none) on)));
         some = old.some;
@@ -483,6 +496,7 @@ restarts_paired x y boot h more fits =
           let old = h.peers.a_speaks.boots k (notice_of f) (map_at notice_of x.told k f there) in
           let wrong : ⊥ = omega arith in wrong);
       unheld = λ b e is. absurd (let wrong : ⊥ = cc in wrong);
+      highest = λ b e is. absurd (let wrong : ⊥ = cc in wrong);
       peers = peers;
       order = ordered_still (acted (side_of x) (Restarted boot)) (side_of y) (said_by x) (said_by y) (side_of (rested x n (λ b. None))).ends order;
     })

@@ -5,7 +5,7 @@ use Rattle.tipc_contact.specs.Sides.{IsNoticed, Notice, boot_of}
 use Rattle.tipc_link.specs.Links.{LinkEnd}
 use Rattle.tipc_link.specs.Sessions.{SessionEnd}
 use Rattle.tipc_paired.proofs.wires.Wires.{is_up_of, map_at, mapped_at, prefix_of_none, same_some}
-use Rattle.tipc_paired.specs.Paired.{ArePaired, IsUnder, IsWith}
+use Rattle.tipc_paired.specs.Paired.{ArePaired, IsShown, IsUnder, IsWith}
 use Rattle.tipc_paired.specs.Views.{Begun, Frame, View, er_of, es_of, fsm_in, notice_of, said_by, session_on}
 
 -- a frame was told under no higher epoch than the present one
@@ -49,6 +49,10 @@ named_own x y b k f e h there bearer is own =
     let top : n.end.fsm.highest ≡ e.fsm.highest = ap (λ (d : LinkEnd). d.fsm.highest) one in
     let few = n.highest in
     omega arith
+
+-- a frame that shows both epochs under a contact number shows the first one under it
+pub under_shown : (told : List Frame) (b es er contact : ℕ) → IsShown told b es er contact → IsUnder told b es contact
+under_shown told b es er contact t = record { place = t.place; frame = t.frame; there = t.there; bearer_is = t.bearer_is; es_is = t.es_is; contact_is = t.contact_is }
 
 -- a notice of an epoch under a contact number is a frame
 pub told_under : (y : View) (b epoch contact : ℕ) → IsNoticed (said_by y) b epoch contact → IsUnder y.told b epoch contact

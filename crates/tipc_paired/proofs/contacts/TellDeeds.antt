@@ -305,6 +305,7 @@ said_paired x y b o h t =
         ends = h.here.ends;
         wires = h.here.wires;
         records = h.here.records;
+        highest = h.here.highest;
         epochs = λ c. epochs_told x.node c x.told y.told (x.wires c) (y.wires c) f (h.here.epochs c) (told_of x y b c o h t);
         frames = Each-append (λ (u : Frame). IsFrame x.node.own (x.wires u.bearer) (y.wires u.bearer) u) x.told (f ∷ []) h.here.frames (Each-one (λ (u : Frame). IsFrame x.node.own (x.wires u.bearer) (y.wires u.bearer) u) f t.frame);
       };

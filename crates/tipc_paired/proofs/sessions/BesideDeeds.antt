@@ -19,7 +19,7 @@ use Rattle.tipc_paired.proofs.wires.Ends.{still_end}
 use Rattle.tipc_paired.proofs.wires.EpochsKept.{IsSteady, epochs_steady, reached_on, records_on}
 use Rattle.tipc_paired.proofs.wires.Frames.{es_of-frame}
 use Rattle.tipc_paired.proofs.wires.Sides.{peers_still}
-use Rattle.tipc_paired.proofs.wires.WireDeeds.{wire_deed}
+use Rattle.tipc_paired.proofs.wires.WireDeeds.{high_still, wire_deed}
 use Rattle.tipc_paired.proofs.wires.Wires.{epoch_of_end, is_up_of, none_some, on_put, prefix_append, prefix_same, put_other, put_same, same_some, session_of_down, session_of_up}
 use Rattle.tipc_paired.specs.Deeds.{Counts, MayCall, with_counted}
 use Rattle.tipc_paired.specs.Paired.{ArePaired, IsEnd, IsGoing, IsNoHigher, IsRecordOf, IsRecords, IsWire, on_record}
@@ -76,6 +76,7 @@ hands_over_paired x y b e h is down =
       end = λ k there. (let one : d ≡ k = cc in subst (IsEnd x.node b) one (still_end x.node b e d (h.here.ends b e is) still));
       wire = none_wire x.node.own w (y.wires b) d (h.here.wires b) down (λ r has. (h.here.wires b).kept e r is (sym (handed_record e) ∙ has));
       records = records_on x.node w w' (y.wires b) e d (h.here.records b) is refl (λ epoch. refl) (handed_record e) (omega arith);
+      highest = high_still x y b e d h is refl;
       epochs = epochs_steady x.node b x.told y.told w w' (y.wires b) (h.here.epochs b) steady;
       peers = peers_still x y b w' h (sym (ap fsm_in is));
     })
@@ -249,6 +250,7 @@ counts_paired x y b e r more h m =
       end = λ k there. (let one : d ≡ k = cc in subst (IsEnd x.node b) one (still_end x.node b e d (h.here.ends b e m.end_is) still));
       wire = counted_wire x y b e r more h m;
       records = counted_records x y b e r more h m;
+      highest = high_still x y b e d h m.end_is refl;
       epochs = epochs_steady x.node b x.told y.told w w' (y.wires b) (h.here.epochs b) (counted_steady x.node w e r more m.end_is);
       peers = peers_still x y b w' h (sym (ap fsm_in m.end_is));
     })

@@ -1,5 +1,5 @@
 -- A link end's bearer is mended or cut, and the end is called: it stays up or down, or goes up.
-use Rattle.std.proofs.Common.{◌≡◌, ◌<◌, ◌≤◌, ◌^◌, ℕ, Bool, true, false, Option, Some, None, option_map, length, refl, sym, ap, ◌∙◌, subst, arith}
+use Rattle.std.proofs.Common.{◌≡◌, ◌⊎◌, ◌<◌, ◌≤◌, ◌^◌, ℕ, Bool, true, false, Option, Some, None, option_map, length, inl, inr, refl, sym, ap, ◌∙◌, subst, arith}
 use Rattle.std.specs.Prelude.{slice_get}
 use Rattle.std.proofs.lemmas.Bool.{true≢false}
 use Rattle.tipc_types.specs.LinkStates.{is_up}
@@ -16,15 +16,16 @@ use Rattle.tipc_types.specs.declared.link_words.Reply.TheVariants as reply
 use Rattle.tipc_link.proofs.Ends.{Alike, IsStill, after-is, alike-same, followed_early, followed_session, learns_taught, like-same, quiet_record, stays_still}
 use Rattle.tipc_link.proofs.EndsTurns.{Turn, fall, learn, rise, stay}
 use Rattle.tipc_link.specs.Parts.{is_quiet}
+use Rattle.tipc_paired.proofs.contacts.Mutual.{told_under, under_shown}
 use Rattle.tipc_paired.proofs.wires.Ends.{still_end, taught_end}
 use Rattle.tipc_paired.proofs.wires.EpochsKept.{IsSteady, epochs_steady, records_on}
 use Rattle.tipc_paired.proofs.wires.Growing.{Grows}
 use Rattle.tipc_paired.proofs.wires.Sides.{peers_called, peers_still}
 use Rattle.tipc_paired.proofs.wires.Turns.{call_turns, shown_to, stays_unheld}
-use Rattle.tipc_paired.proofs.wires.WireDeeds.{wire_deed}
+use Rattle.tipc_paired.proofs.wires.WireDeeds.{high_still, wire_deed}
 use Rattle.tipc_paired.proofs.wires.Wires.{epoch_of_end, is_up_of, mapped_at, prefix_same, same_some, session_of_up}
 use Rattle.tipc_paired.specs.Deeds.{MayCall}
-use Rattle.tipc_paired.specs.Paired.{ArePaired, IsEnd, IsFrame, IsGoing, IsRecords, IsShown, IsWire}
+use Rattle.tipc_paired.specs.Paired.{ArePaired, IsEnd, IsFrame, IsGoing, IsRecords, IsShown, IsUnder, IsWire, WasTold}
 use Rattle.tipc_paired.specs.Views.{Frame, Node, View, Wire, es_of, fsm_in, notice_of, said_by, session_on, with_end, with_wire}
 use Rattle.tipc_link.specs.Direction.{IsDirection, IsReceiver}
 use Rattle.tipc_send_window.specs.Sending.{Sending}
@@ -154,6 +155,7 @@ turns_paired x y b e mended h is =
       end = λ d there. (let same : e' ≡ d = cc in subst (IsEnd x.node b) same (still_end x.node b e e' (h.here.ends b e is) still));
       wire = wire_on x.node.own w (y.wires b) e e' (h.here.wires b) on;
       records = records_end x.node w (y.wires b) e e' (h.here.records b) on;
+      highest = high_still x y b e e' h is refl;
       epochs = epochs_steady x.node b x.told y.told w (with_end w e') (y.wires b) (h.here.epochs b) (steady_on x.node w e e' on);
       peers = peers_still x y b (with_end w e') h (sym (ap (λ (o : Option LinkEnd). fsm_in o) is));
     })
@@ -203,6 +205,37 @@ shown_fits x y b Releases es er h may is = absurd (let wrong : ⊥ = cc in wrong
 shown_fits x y b ForgetsPeer es er h may is = absurd may
 shown_fits x y b ContactEnds es er h may is = absurd may
 
+-- it was told
+shown_was_told : (x y : View) (b : ℕ) (call : Call) (es er : ℕ) → MayCall x y b call → shown_to call ≡ Some (es, er) → WasTold y.told b es
+shown_was_told x y b (ResetArrives k held) es er may is = (let same : k ≡ es = first_of _ _ _ _ is in inr (x.node.seen, subst (λ n. IsUnder y.told b n x.node.seen) same (told_under y b k x.node.seen may)))
+shown_was_told x y b (ActivateArrives k m) es er may is = (let same : k ≡ es = first_of _ _ _ _ is in inr (x.node.seen, subst (λ n. IsUnder y.told b n x.node.seen) same (under_shown y.told b k m x.node.seen may)))
+shown_was_told x y b (TrafficArrives k m) es er may is =
+    (let same : k ≡ es = first_of _ _ _ _ is in inr (may.begun.contact, subst (λ n. IsUnder y.told b n may.begun.contact) same (under_shown y.told b k m may.begun.contact may.shown)))
+shown_was_told x y b (TickPasses held) es er may is = absurd (let wrong : ⊥ = cc in wrong)
+shown_was_told x y b (BearerIsCut held) es er may is = absurd (let wrong : ⊥ = cc in wrong)
+shown_was_told x y b (TunnelNames epoch) es er may is = absurd (let wrong : ⊥ = cc in wrong)
+shown_was_told x y b Releases es er may is = absurd (let wrong : ⊥ = cc in wrong)
+shown_was_told x y b ForgetsPeer es er may is = absurd may
+shown_was_told x y b ContactEnds es er may is = absurd may
+
+-- so is the highest epoch that an end took, whatever call is made of it
+pub high_called : (x y : View) (b : ℕ) (e : LinkEnd) (call : Call) → ArePaired x y → (x.wires b).end ≡ Some e → MayCall x y b call → WasTold y.told b (outcome e.fsm call).after.highest
+high_called x y b e call h is may = (let named = call_named x y b call may in by (call_turns e.fsm call named.0 named.1))
+  where
+    told : ℕ → Type 0
+    told epoch = WasTold y.told b epoch
+
+    rising : (es : ℕ) → shown_to call ≡ Some (es, e.fsm.own) → (((outcome e.fsm call).after.highest ≡ es) × (e.fsm.highest ≤ es)) ⊎ ((e.fsm.peer ≡ Some es) × ((outcome e.fsm call).after.highest ≡ e.fsm.highest))
+        → told (outcome e.fsm call).after.highest
+    rising es shown (inl high) = subst told (sym high.0) (shown_was_told x y b call es e.fsm.own may shown)
+    rising es shown (inr same) = subst told (sym same.1) (h.here.highest b e is)
+
+    by : Turn e.fsm (shown_to call) (outcome e.fsm call) → told (outcome e.fsm call).after.highest
+    by (stay m) = subst told (sym m.highest) (h.here.highest b e is)
+    by (learn m) = subst told (sym m.highest) (shown_was_told x y b call m.es m.er may m.shown_is)
+    by (rise m) = rising m.es m.shown_is m.highest
+    by (fall m) = subst told (sym m.highest) (h.here.highest b e is)
+
 -- ---- a call that leaves the end up or down as before
 
 -- the end after a call, written out
@@ -222,6 +255,7 @@ on_paired x y b e call h is may on end =
       end = λ d there. (let one : e' ≡ d = cc in subst (IsEnd x.node b) one kept);
       wire = wire_on x.node.own w (y.wires b) e e' (h.here.wires b) on;
       records = records_end x.node w (y.wires b) e e' (h.here.records b) on;
+      highest = λ d there. (let one : e' ≡ d = cc in subst (λ (k : LinkEnd). WasTold y.told b k.fsm.highest) one (high_called x y b e call h is may));
       epochs = epochs_steady x.node b x.told y.told w (with_end w e') (y.wires b) (h.here.epochs b) (steady_on x.node w e e' on);
       peers = peers_called x y b (with_end w e') e call h is may refl;
     }))

@@ -23,7 +23,7 @@ use Rattle.tipc_paired.proofs.wires.Ends.{raised_end}
 use Rattle.tipc_paired.proofs.wires.Sides.{peers_called}
 use Rattle.tipc_paired.proofs.wires.Turns.{call_turns, shown_to, up_unheld}
 use Rattle.tipc_paired.proofs.wires.EpochsKept.{reached_on}
-use Rattle.tipc_paired.proofs.contacts.Mutual.{named_own, told_under}
+use Rattle.tipc_paired.proofs.contacts.Mutual.{named_own, told_under, under_shown}
 use Rattle.tipc_paired.proofs.wires.WireDeeds.{wire_deed}
 use Rattle.tipc_paired.proofs.wires.Wires.{epoch_of_end, map_at, none_some, on_put, on_put_else, prefix_of_none, prefix_same, put_other, put_same, same_some, session_of_down, session_of_up}
 use Rattle.tipc_paired.specs.Deeds.{MayCall, begun_by, with_begun}
@@ -288,6 +288,7 @@ went_paired x y b e e' es h m =
       end = λ d is. (let same : e' ≡ d = cc in subst (IsEnd x.node b) same end);
       wire = went_wire x y b e e' es h m;
       records = went_records x y b e e' es h m;
+      highest = λ d is. (let same : e' ≡ d = cc in inr (x.node.seen, subst (λ (k : LinkEnd). IsUnder y.told b k.fsm.highest x.node.seen) same (subst (λ n. IsUnder y.told b n x.node.seen) (sym m.highest) (under_shown y.told b es e.fsm.own x.node.seen m.shown))));
       epochs = went_epochs x y b e e' es h m;
       peers = m.peers;
     })

@@ -14,7 +14,7 @@ use Rattle.tipc_paired.proofs.wires.Ends.{still_end}
 use Rattle.tipc_paired.proofs.wires.EpochsKept.{epochs_steady, reached_on, session_is, steady_session, still_session}
 use Rattle.tipc_paired.proofs.wires.Growing.{Grows}
 use Rattle.tipc_paired.proofs.wires.Sides.{peers_still}
-use Rattle.tipc_paired.proofs.wires.WireDeeds.{wire_deed}
+use Rattle.tipc_paired.proofs.wires.WireDeeds.{high_still, wire_deed}
 use Rattle.tipc_paired.proofs.wires.Wires.{prefix_same, same_some, session_of_up}
 use Rattle.tipc_paired.specs.Deeds.{Hears, IsUp, with_going}
 use Rattle.tipc_paired.specs.Paired.{ArePaired, IsEnd, IsFrame, IsGoing, IsOfSession, IsPacket, IsReached, IsRecordOf, IsRecords, IsWire, on_record}
@@ -72,6 +72,7 @@ session_step x y b e s s' line got h up alike same which grows wire =
       end = end;
       wire = wire;
       records = records_going x.node (x.wires b) (y.wires b) e s s' line got (h.here.records b) up same which;
+      highest = high_still x y b e (with_session e s') h up.end_is refl;
       epochs = epochs_steady x.node b x.told y.told (x.wires b) w' (y.wires b) (h.here.epochs b) (steady_session x.node (x.wires b) e s s' line got up alike);
       peers = peers_still x y b w' h (sym (ap (λ (o : Option LinkEnd). fsm_in o) up.end_is));
     })
