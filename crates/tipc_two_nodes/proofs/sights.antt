@@ -18,5 +18,6 @@ pub mod Holding
 pub mod Truth
 pub mod Reaching
 pub mod Ordered
+pub mod Known
 pub mod HeardIn
 pub mod Meeting

@@ -1,5 +1,6 @@
 //! Laws of two nodes with a pair each. They do nothing when they run.
 
+ghost use Rattle.tipc_two_nodes.specs.Known.{ContactTellsPresent, NothingHigherIsKnown, PresentTellsContact};
 ghost use Rattle.tipc_two_nodes.specs.Order.{BothInOne, EnteredNotYounger, EnteredPast, EnteredRise, EntersMet, HeardInContact, NoneMet, SeenNoHigher, SessionInContact, StepsMet, TurnedMet};
 ghost use Rattle.tipc_two_nodes.specs.Reaching.{ReachedAreFronts, ReachedAreSeen};
 ghost use Rattle.tipc_two_nodes.specs.Sights.{EndsSeen, FramesSeen, FrontsSeen, GivesSeen, RestartsSeen, StartsSeen, TurnedSeen, TurnsSeen};
@@ -44,4 +45,13 @@ pub fn two_nodes_agree_on_their_contacts()
 pub fn what_is_given_is_a_front()
     ensures seen { ReachedAreSeen }
     ensures front { ReachedAreFronts }
+{}
+
+/// What two nodes that talk know of each other. Nothing is above what the other has: no contact number, and no epoch, also where it was forgotten or
+/// the other one has no link end yet. A link end that knows the present epoch of the other one has seen its present contact number; and of a
+/// node without contact, one that has seen that number knows no other epoch.
+pub fn what_nodes_know()
+    ensures no_higher { NothingHigherIsKnown }
+    ensures contact { PresentTellsContact }
+    ensures present { ContactTellsPresent }
 {}
