@@ -187,8 +187,8 @@ pub record IsUnder (frames : List Frame) (bearer epoch contact : ℕ) : Type 0 w
   pub contact_is : frame.contact ≡ contact
 
 -- an epoch of the peer that a link end took last: it is 0 where it took none, and one that the peer told on the bearer
-abbrev pub WasTold : List Frame → ℕ → ℕ → Type 0
-WasTold frames bearer epoch = (epoch ≡ 0) ⊎ ((contact : ℕ) × IsUnder frames bearer epoch contact)
+abbrev pub IsHeardEpoch : List Frame → ℕ → ℕ → Type 0
+IsHeardEpoch frames bearer epoch = (epoch ≡ 0) ⊎ ((contact : ℕ) × IsUnder frames bearer epoch contact)
 
 -- The sessions of a node on one bearer: when and in which contact they began, and what was told of it.
 pub record IsEpochs (n : Node) (bearer : ℕ) (told heard : List Frame) (w v : Wire) : Type 0 where
@@ -229,7 +229,7 @@ pub record IsHalf (x y : View) : Type 0 where
   pub records : (bearer : ℕ) → IsRecords x.node (x.wires bearer) (y.wires bearer)
   pub epochs : (bearer : ℕ) → IsEpochs x.node bearer x.told y.told (x.wires bearer) (y.wires bearer)
   -- the highest epoch of the peer that a link end took, also where it forgot it since
-  pub highest : (bearer : ℕ) (e : LinkEnd) → (x.wires bearer).end ≡ Some e → WasTold y.told bearer e.fsm.highest
+  pub highest : (bearer : ℕ) (e : LinkEnd) → (x.wires bearer).end ≡ Some e → IsHeardEpoch y.told bearer e.fsm.highest
   pub frames : (k : ℕ) (f : Frame) → slice_get x.told k ≡ Some f
       → IsFrame x.node.own (x.wires f.bearer) (y.wires f.bearer) f
 

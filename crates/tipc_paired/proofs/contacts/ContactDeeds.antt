@@ -30,7 +30,7 @@ use Rattle.tipc_paired.proofs.wires.Turns.{call_turns, shown_to}
 use Rattle.tipc_paired.proofs.wires.WireDeeds.{agree_turned, high_still, wire_deed}
 use Rattle.tipc_paired.proofs.wires.Wires.{epoch_of_end, epoch_of_none, is_up_of, map_at, none_some, prefix_of_none, prefix_same, put_other, put_same, same_some, session_of_down, session_of_none}
 use Rattle.tipc_paired.specs.Deeds.{MayCall, ended_with, forgot_with, made_on, parted_view, restarted, risen_view}
-use Rattle.tipc_paired.specs.Paired.{ArePaired, IsEnd, IsFrame, IsNoHigher, IsNode, IsReached, IsRecordOf, IsRecords, IsWire, WasTold, long_ago, untaken}
+use Rattle.tipc_paired.specs.Paired.{ArePaired, IsEnd, IsFrame, IsNoHigher, IsNode, IsReached, IsRecordOf, IsRecords, IsWire, IsHeardEpoch, long_ago, untaken}
 use Rattle.tipc_paired.specs.Views.{Begun, Frame, IsApart, Node, View, Wire, epoch_in, epoch_on, er_of, es_of, fsm_in, notice_of, put_at, said_by, session_on, side_of, with_end, with_wire}
 
 -- ---- other ends, and nothing else done
@@ -55,7 +55,7 @@ pub record Rests (x y : View) (n : Node) (ends : ℕ → Option LinkEnd) : Type 
   pub unborn : (b epoch : ℕ) → epoch_on n ((rested x n ends).wires b) ≤ epoch → (x.wires b).begun epoch ≡ None
   pub named : (b k : ℕ) (f : Frame) → slice_get x.told k ≡ Some f → f.bearer ≡ b → boot_of (es_of f.bytes) ≡ n.boot → IsNoHigher ((rested x n ends).wires b) (er_of f.bytes)
   pub unheld : (b : ℕ) (e : LinkEnd) → ends b ≡ Some e → is_held e.fsm.state ≡ false
-  pub highest : (b : ℕ) (e : LinkEnd) → ends b ≡ Some e → WasTold y.told b e.fsm.highest
+  pub highest : (b : ℕ) (e : LinkEnd) → ends b ≡ Some e → IsHeardEpoch y.told b e.fsm.highest
   pub peers : ArePeers (side_of (rested x n ends)) (said_by x) (side_of y) (said_by y)
   pub order : AreInOrder (side_of (rested x n ends)) (said_by x) (side_of y) (said_by y)
 
@@ -140,7 +140,7 @@ mapped_end f (Some e) e' is = (e, refl, (let same : f e ≡ e' = cc in same))
 
 -- link ends that became others, which took no other epoch
 mapped_high : (x y : View) (b : ℕ) (f : LinkEnd → LinkEnd) → ArePaired x y → ((e : LinkEnd) → (x.wires b).end ≡ Some e → (f e).fsm.highest ≡ e.fsm.highest) → (e' : LinkEnd) → option_map f (x.wires b).end ≡ Some e'
-    → WasTold y.told b e'.fsm.highest
+    → IsHeardEpoch y.told b e'.fsm.highest
 mapped_high x y b f h same e' is =
     let at = mapped_end f (x.wires b).end e' is in
     high_still x y b at.0 (f at.0) h at.1 (same at.0 at.1) e' (ap Some at.2)

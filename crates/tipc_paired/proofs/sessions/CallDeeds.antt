@@ -25,7 +25,7 @@ use Rattle.tipc_paired.proofs.wires.Turns.{call_turns, shown_to, stays_unheld}
 use Rattle.tipc_paired.proofs.wires.WireDeeds.{high_still, wire_deed}
 use Rattle.tipc_paired.proofs.wires.Wires.{epoch_of_end, is_up_of, mapped_at, prefix_same, same_some, session_of_up}
 use Rattle.tipc_paired.specs.Deeds.{MayCall}
-use Rattle.tipc_paired.specs.Paired.{ArePaired, IsEnd, IsFrame, IsGoing, IsRecords, IsShown, IsUnder, IsWire, WasTold}
+use Rattle.tipc_paired.specs.Paired.{ArePaired, IsEnd, IsFrame, IsGoing, IsRecords, IsShown, IsUnder, IsWire, IsHeardEpoch}
 use Rattle.tipc_paired.specs.Views.{Frame, Node, View, Wire, es_of, fsm_in, notice_of, said_by, session_on, with_end, with_wire}
 use Rattle.tipc_link.specs.Direction.{IsDirection, IsReceiver}
 use Rattle.tipc_send_window.specs.Sending.{Sending}
@@ -206,7 +206,7 @@ shown_fits x y b ForgetsPeer es er h may is = absurd may
 shown_fits x y b ContactEnds es er h may is = absurd may
 
 -- it was told
-shown_was_told : (x y : View) (b : ℕ) (call : Call) (es er : ℕ) → MayCall x y b call → shown_to call ≡ Some (es, er) → WasTold y.told b es
+shown_was_told : (x y : View) (b : ℕ) (call : Call) (es er : ℕ) → MayCall x y b call → shown_to call ≡ Some (es, er) → IsHeardEpoch y.told b es
 shown_was_told x y b (ResetArrives k held) es er may is = (let same : k ≡ es = first_of _ _ _ _ is in inr (x.node.seen, subst (λ n. IsUnder y.told b n x.node.seen) same (told_under y b k x.node.seen may)))
 shown_was_told x y b (ActivateArrives k m) es er may is = (let same : k ≡ es = first_of _ _ _ _ is in inr (x.node.seen, subst (λ n. IsUnder y.told b n x.node.seen) same (under_shown y.told b k m x.node.seen may)))
 shown_was_told x y b (TrafficArrives k m) es er may is =
@@ -219,11 +219,11 @@ shown_was_told x y b ForgetsPeer es er may is = absurd may
 shown_was_told x y b ContactEnds es er may is = absurd may
 
 -- so is the highest epoch that an end took, whatever call is made of it
-pub high_called : (x y : View) (b : ℕ) (e : LinkEnd) (call : Call) → ArePaired x y → (x.wires b).end ≡ Some e → MayCall x y b call → WasTold y.told b (outcome e.fsm call).after.highest
+pub high_called : (x y : View) (b : ℕ) (e : LinkEnd) (call : Call) → ArePaired x y → (x.wires b).end ≡ Some e → MayCall x y b call → IsHeardEpoch y.told b (outcome e.fsm call).after.highest
 high_called x y b e call h is may = (let named = call_named x y b call may in by (call_turns e.fsm call named.0 named.1))
   where
     told : ℕ → Type 0
-    told epoch = WasTold y.told b epoch
+    told epoch = IsHeardEpoch y.told b epoch
 
     rising : (es : ℕ) → shown_to call ≡ Some (es, e.fsm.own) → (((outcome e.fsm call).after.highest ≡ es) × (e.fsm.highest ≤ es)) ⊎ ((e.fsm.peer ≡ Some es) × ((outcome e.fsm call).after.highest ≡ e.fsm.highest))
         → told (outcome e.fsm call).after.highest
@@ -255,7 +255,7 @@ on_paired x y b e call h is may on end =
       end = λ d there. (let one : e' ≡ d = cc in subst (IsEnd x.node b) one kept);
       wire = wire_on x.node.own w (y.wires b) e e' (h.here.wires b) on;
       records = records_end x.node w (y.wires b) e e' (h.here.records b) on;
-      highest = λ d there. (let one : e' ≡ d = cc in subst (λ (k : LinkEnd). WasTold y.told b k.fsm.highest) one (high_called x y b e call h is may));
+      highest = λ d there. (let one : e' ≡ d = cc in subst (λ (k : LinkEnd). IsHeardEpoch y.told b k.fsm.highest) one (high_called x y b e call h is may));
       epochs = epochs_steady x.node b x.told y.told w (with_end w e') (y.wires b) (h.here.epochs b) (steady_on x.node w e e' on);
       peers = peers_called x y b (with_end w e') e call h is may refl;
     }))

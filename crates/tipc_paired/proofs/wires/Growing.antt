@@ -7,7 +7,7 @@ use Rattle.tipc_link.proofs.Directions.{IsCarried-stays, IsReceiver-stays, slice
 use Rattle.tipc_link.proofs.LinkLaw.{Each-append}
 use Rattle.tipc_send_window.specs.Sending.{Sending}
 use Rattle.tipc_paired.proofs.wires.Wires.{prefix_extends, prefix_long, prefix_trans}
-use Rattle.tipc_paired.specs.Paired.{IsEpochs, IsFrame, IsHalf, IsReached, IsRecords, IsShown, IsUnder, IsWire, IsWith, WasTold, long_ago, on_record, untaken}
+use Rattle.tipc_paired.specs.Paired.{IsEpochs, IsFrame, IsHalf, IsReached, IsRecords, IsShown, IsUnder, IsWire, IsWith, IsHeardEpoch, long_ago, on_record, untaken}
 use Rattle.tipc_paired.specs.Views.{Begun, Frame, Node, View, Wire}
 
 -- what was numbered, taken and begun on a wire stays
@@ -145,7 +145,7 @@ under_more : (told more : List Frame) (bearer epoch contact : ℕ) → IsUnder t
 under_more told more bearer epoch contact h =
     record { place = h.place; frame = h.frame; there = slice_get-append told more h.place h.frame h.there; bearer_is = h.bearer_is; es_is = h.es_is; contact_is = h.contact_is }
 
-told_more : (told more : List Frame) (bearer epoch : ℕ) → WasTold told bearer epoch → WasTold (told ++ more) bearer epoch
+told_more : (told more : List Frame) (bearer epoch : ℕ) → IsHeardEpoch told bearer epoch → IsHeardEpoch (told ++ more) bearer epoch
 told_more told more bearer epoch (inl none) = inl none
 told_more told more bearer epoch (inr t) = inr (t.0, under_more told more bearer epoch t.0 t.1)
 
@@ -182,7 +182,7 @@ half_back y x x' more h grows within agree now told = record {
   ends = h.ends;
   wires = λ b. wire_back y.node.own (y.wires b) (x.wires b) (x'.wires b) (h.wires b) (grows b) (within b);
   records = λ b. records_back y.node (y.wires b) (x.wires b) (x'.wires b) (h.records b) (grows b);
-  highest = λ b e is. subst (λ fs. WasTold fs b e.fsm.highest) (sym told) (told_more x.told more b e.fsm.highest (h.highest b e is));
+  highest = λ b e is. subst (λ fs. IsHeardEpoch fs b e.fsm.highest) (sym told) (told_more x.told more b e.fsm.highest (h.highest b e is));
   epochs = λ b. subst (λ fs. IsEpochs y.node b y.told fs (y.wires b) (x'.wires b)) (sym told) (epochs_back y.node b y.told x.told more (y.wires b) (x.wires b) (x'.wires b) (h.epochs b) (agree b) (now b));
   frames = λ k f there. frame_back y.node.own (y.wires f.bearer) (x.wires f.bearer) (x'.wires f.bearer) f (h.frames k f there) (grows f.bearer);
 }

@@ -8,7 +8,7 @@ use Rattle.tipc_pair.specs.Facing.{in_contact, is_up_at}
 use Rattle.tipc_paired.proofs.contacts.Mutual.{told_past, told_under}
 use Rattle.tipc_paired.proofs.PairedLaw.{turned as turned_pair}
 use Rattle.tipc_paired.proofs.wires.Wires.{epoch_of_end, epoch_of_none, map_at}
-use Rattle.tipc_paired.specs.Paired.{ArePaired, IsUnder, WasTold}
+use Rattle.tipc_paired.specs.Paired.{ArePaired, IsUnder, IsHeardEpoch}
 use Rattle.tipc_paired.specs.Views.{Frame, IsApart, Node, View, Wire, epoch_in, epoch_on, es_of, fsm_in, notice_of}
 use Rattle.tipc_two_nodes.specs.Carriages.{Numbers}
 use Rattle.tipc_two_nodes.specs.Known.{ContactTellsPresent, KnowsNoHigher, NothingHigherIsKnown, PresentTellsContact}
@@ -29,7 +29,7 @@ some_contact : (x y : View) → ArePaired x y → 1 ≤ y.node.contact
 some_contact x y h = h.peers.b_speaks.some
 
 -- an epoch of y that was told is no higher than that of its link end, and lower than the number of one that isn't made
-no_higher : (x y : View) (b epoch : ℕ) → ArePaired x y → WasTold y.told b epoch → (d : LinkEnd) → (y.wires b).end ≡ Some d → epoch ≤ d.fsm.own
+no_higher : (x y : View) (b epoch : ℕ) → ArePaired x y → IsHeardEpoch y.told b epoch → (d : LinkEnd) → (y.wires b).end ≡ Some d → epoch ≤ d.fsm.own
 no_higher x y b epoch h (inl none) d is = omega (arith, none)
 no_higher x y b epoch h (inr t) d is =
     let f = t.1 in
@@ -37,7 +37,7 @@ no_higher x y b epoch h (inr t) d is =
     let es = f.es_is in
     omega (arith, past, es)
 
-lower : (x y : View) (b epoch : ℕ) → ArePaired x y → WasTold y.told b epoch → (y.wires b).end ≡ None → epoch < y.node.contact
+lower : (x y : View) (b epoch : ℕ) → ArePaired x y → IsHeardEpoch y.told b epoch → (y.wires b).end ≡ None → epoch < y.node.contact
 lower x y b epoch h (inl none) is = let some = some_contact x y h in omega (arith, none, some)
 lower x y b epoch h (inr t) is =
     let f = t.1 in
