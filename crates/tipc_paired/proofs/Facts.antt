@@ -91,9 +91,10 @@ record IsNow (x y : View) (b epoch : ℕ) (r : Received) : Type 0 where
   epoch_is : r.epoch ≡ epoch
   takes : length ((x.wires b).got epoch) ≡ r.taken
   holds : IsReceiver r.held r.taken ((y.wires b).line epoch)
+  shown : r.shown ≤ length ((y.wires b).line epoch) + 1
 
 new_now : (x y : View) (b epoch : ℕ) → (x.wires b).got epoch ≡ [] → IsNow x y b epoch (unheard epoch)
-new_now x y b epoch none = record { epoch_is = refl; takes = ap (λ (xs : List (List ℕ)). length xs) none; holds = holds_none _ }
+new_now x y b epoch none = record { epoch_is = refl; takes = ap (λ (xs : List (List ℕ)). length xs) none; holds = holds_none _; shown = omega arith }
 
 -- no record is of it, nor of a later one: nothing was taken of it
 none_of : (x y : View) (b : ℕ) (e : LinkEnd) (epoch : ℕ) → ArePaired x y → Names x y b e epoch → ((r : Received) → record_of e ≡ Some r → r.epoch < epoch) → (x.wires b).got epoch ≡ []
@@ -127,12 +128,14 @@ named_now x y b e epoch h m = of (record_of e) refl where
           epoch_is = same;
           takes = ap (λ n. length ((x.wires b).got n)) (sym same) ∙ k.takes;
           holds = subst (λ n. IsReceiver r.held r.taken ((y.wires b).line n)) same k.holds;
+          shown = subst (λ n. r.shown ≤ length ((y.wires b).line n) + 1) same k.shown;
         }
   ] refl
 
 counts_of : (x y : View) (b : ℕ) (e : LinkEnd) (epoch : ℕ) (r : Received) (more : List (List ℕ)) → Names x y b e epoch → r.epoch ≡ epoch → IsPrefixOf ((x.wires b).got epoch ++ more) ((y.wires b).line epoch)
-    → length ((x.wires b).got epoch ++ more) ≡ r.taken → IsReceiver r.held r.taken ((y.wires b).line epoch) → Counts x y b e r more
-counts_of x y b e epoch r more m same next takes holds = record {
+    → length ((x.wires b).got epoch ++ more) ≡ r.taken → IsReceiver r.held r.taken ((y.wires b).line epoch) → r.shown ≤ length ((y.wires b).line epoch) + 1
+    → Counts x y b e r more
+counts_of x y b e epoch r more m same next takes holds shown = record {
   end_is = m.end_is;
   begun = m.begun;
   begun_is = ap (y.wires b).begun same ∙ m.begun_is;
@@ -144,6 +147,7 @@ counts_of x y b e epoch r more m same next takes holds = record {
   next = subst (λ n. IsPrefixOf ((x.wires b).got n ++ more) ((y.wires b).line n)) (sym same) next;
   takes = ap (λ n. length ((x.wires b).got n ++ more)) same ∙ takes;
   holds = subst (λ n. IsReceiver r.held r.taken ((y.wires b).line n)) (sym same) holds;
+  shown = subst (λ n. r.shown ≤ length ((y.wires b).line n) + 1) (sym same) shown;
 }
 
 pub names_count : NamesCount
@@ -152,7 +156,7 @@ names_count x y b e epoch h m =
     let k = named_now x y b e epoch h m in
     let got = (x.wires b).got epoch in
     let all = sym (append-nil got) in
-    counts_of x y b e epoch r [] m k.epoch_is (subst (λ xs. IsPrefixOf xs ((y.wires b).line epoch)) all ((h.here.wires b).prefix epoch)) (ap (λ (xs : List (List ℕ)). length xs) (append-nil got) ∙ k.takes) k.holds
+    counts_of x y b e epoch r [] m k.epoch_is (subst (λ xs. IsPrefixOf xs ((y.wires b).line epoch)) all ((h.here.wires b).prefix epoch)) (ap (λ (xs : List (List ℕ)). length xs) (append-nil got) ∙ k.takes) k.holds k.shown
 
 pub tunnels_count : TunnelsCount
 tunnels_count x y b e epoch t r h m is more =
@@ -167,7 +171,7 @@ tunnels_count x y b e epoch t r h m is more =
     let takes = k.takes in
     let front : take (length part) (drop (length got) line) ≡ part = ap (λ i. take i (drop (length got) line)) long ∙ ap (λ i. take n (drop i line)) takes in
     let together = length-append got part in
-    counts_of x y b e epoch (advanced_by r t) part m k.epoch_is (more_front got part line ((h.here.wires b).prefix epoch) front) (let sum : length (got ++ part) ≡ r.taken + n = omega arith in sum) f.receiver
+    counts_of x y b e epoch (advanced_by r t) part m k.epoch_is (more_front got part line ((h.here.wires b).prefix epoch) front) (let sum : length (got ++ part) ≡ r.taken + n = omega arith in sum) f.receiver k.shown
 
 -- ---- a record that stays as it was
 

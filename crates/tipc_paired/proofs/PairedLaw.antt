@@ -25,7 +25,7 @@ works_paired x y _ h (turns b e mended is) = turns_paired x y b e mended h is
 works_paired x y _ h (calls b e call is may quiet) = calls_paired x y b e call h is may quiet
 works_paired x y _ h (shows number higher fits apart shown) = shows_paired x y number h higher fits apart shown
 works_paired x y _ h (releases b e s p up a) = releases_paired x y b e s p h up a
-works_paired x y _ h (notes b e s shown unanswered owes up) = notes_paired x y b e s shown unanswered owes h up
+works_paired x y _ h (notes b e s shown unanswered owes up most) = notes_paired x y b e s shown unanswered owes h up most
 works_paired x y _ h (numbers b e s up) = numbers_paired x y b e s h up
 works_paired x y _ h (tells b o may) = tells_paired x y b o h may
 

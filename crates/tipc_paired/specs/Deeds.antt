@@ -152,10 +152,12 @@ pub data Works (x y : View) : View → Type 0 where
       → Works x y (with_wire x b (with_end (x.wires b) (after e (outcome e.fsm call))))
   shows : (number : ℕ) → x.node.seen < number → number < 2 ^ 64 → IsApart x → IsContactShown (said_by y) number
       → Works x y (risen_view x number)
-  -- a session reads an acknowledgement, keeps something for its answers, and numbers packets that wait
+  -- a session reads an acknowledgement, keeps something for its answers and no next position above the one that the peer has, and numbers
+  -- packets that wait
   releases : (b : ℕ) (e : LinkEnd) (s : SessionEnd) (p : Fields) → IsUp (x.wires b) e s → Hears x y b s p
       → Works x y (with_wire x b (with_going (x.wires b) e (after_acknowledgement s p.acknowledgement)))
   notes : (b : ℕ) (e : LinkEnd) (s : SessionEnd) (shown : ℕ) (unanswered : Unanswered) (owes : Bool) → IsUp (x.wires b) e s
+      → shown ≤ length ((y.wires b).line s.peer_epoch) + 1
       → Works x y (with_wire x b (with_going (x.wires b) e (record s { shown = shown; unanswered = unanswered; owes = owes })))
   numbers : (b : ℕ) (e : LinkEnd) (s : SessionEnd) → IsUp (x.wires b) e s
       → Works x y (with_wire x b (record (with_going (x.wires b) e (flushed s)) { line = put_at (x.wires b).line s.epoch ((x.wires b).line s.epoch ++ moving s) }))
@@ -199,6 +201,7 @@ pub record Counts (x y : View) (bearer : ℕ) (e : LinkEnd) (r : Received) (more
   pub next : IsPrefixOf ((x.wires bearer).got r.epoch ++ more) ((y.wires bearer).line r.epoch)
   pub takes : length ((x.wires bearer).got r.epoch ++ more) ≡ r.taken
   pub holds : IsReceiver r.held r.taken ((y.wires bearer).line r.epoch)
+  pub shown : r.shown ≤ length ((y.wires bearer).line r.epoch) + 1
 
 -- the wire when its receiving record has become r, as so many packets more were taken of the record's session
 abbrev pub with_counted : Wire → LinkEnd → Received → List (List ℕ) → Wire

@@ -1,5 +1,5 @@
 -- What holds of the two nodes of a pair at every moment, whatever either does and whatever arrives, by bearer and session.
-use Rattle.std.specs.Prelude.{[], ◌+◌, ◌<◌, ◌^◌, ◌≡◌, ◌≢◌, ◌≤◌, ◌⊎◌, List, None, Some, false, length, slice_get, true, ℕ}
+use Rattle.std.specs.Prelude.{Bool, [], ◌+◌, ◌<◌, ◌^◌, ◌≡◌, ◌≢◌, ◌≤◌, ◌⊎◌, List, None, Some, false, length, slice_get, true, ℕ}
 use Rattle.tipc_types.specs.LinkStates.{is_up}
 use Rattle.tipc_types.specs.Position.{number_of}
 use Rattle.tipc_types.specs.Prefixes.{IsPrefixOf}
@@ -16,7 +16,7 @@ use Rattle.tipc_contact.specs.Sides.{boot_of, first_number}
 use Rattle.tipc_link.specs.Direction.{IsCarried, IsDirection, IsReceiver}
 use Rattle.tipc_link.specs.Links.{LinkEnd, is_traffic, record_of}
 use Rattle.tipc_link.specs.Records.{Received}
-use Rattle.tipc_link.specs.Sessions.{Carries, SessionEnd, content_of}
+use Rattle.tipc_link.specs.Sessions.{Carries, SessionEnd, Shows, content_of}
 use Rattle.tipc_paired.specs.Views.{Begun, Frame, Node, View, Wire, epoch_on, er_of, es_of, said_by, session_on, side_of, unused}
 
 -- ---- packets, and what they show
@@ -71,10 +71,12 @@ pub record IsEnd (n : Node) (bearer : ℕ) (e : LinkEnd) : Type 0 where
 abbrev pub IsWith : Wire → ℕ → ℕ → Type 0
 IsWith v er es = (there : Begun) × (v.begun er ≡ Some there) × (there.peer_epoch ≡ es)
 
--- the receiving record of an end on wire w, against the wire v of the peer: what was taken of the peer's session, and what is held of it
+-- the receiving record of an end on wire w, against the wire v of the peer: what was taken of the peer's session, what is held of it, and no
+-- more was shown of it than was numbered, and the next position
 pub record IsRecordOf (w v : Wire) (r : Received) : Type 0 where
   pub takes : length (w.got r.epoch) ≡ r.taken
   pub holds : IsReceiver r.held r.taken (v.line r.epoch)
+  pub shown : r.shown ≤ length (v.line r.epoch) + 1
 
 -- the session on wire w, against the wire v of the peer
 pub record IsGoing (own : ℕ) (w v : Wire) (s : SessionEnd) : Type 0 where
@@ -88,6 +90,7 @@ pub record IsGoing (own : ℕ) (w v : Wire) (s : SessionEnd) : Type 0 where
   -- what it took and holds, against what the peer numbered
   pub takes : length (w.got s.peer_epoch) ≡ s.taken
   pub holds : IsReceiver s.held s.taken (v.line s.peer_epoch)
+  pub shown : s.shown ≤ length (v.line s.peer_epoch) + 1
   -- its record is of the peer's epoch
   pub record_is : s.record_epoch ≡ s.peer_epoch
 
@@ -148,6 +151,8 @@ pub record IsOfSession (w v : Wire) (f : Frame) (es er : ℕ) (p : Fields) : Typ
   pub carried : (number : ℕ) (bytes : List ℕ) → content_of p ≡ Carries number bytes
       → IsCarried (w.line es) f.numbered number bytes
   pub recent : f.numbered ≤ length (v.got es) + window_size
+  -- the next number that it shows is that behind all that was numbered
+  pub shows : (next gap : ℕ) (probe : Bool) → content_of p ≡ Shows next gap probe → next ≡ number_of (f.numbered + 1)
 
 -- a frame is an envelope and a packet of its node
 pub record IsFrame (own : ℕ) (w v : Wire) (f : Frame) : Type 0 where

@@ -77,7 +77,7 @@ rests_paired x y n ends h m =
               window = old.window;
               prefix = old.prefix;
               going = λ s on. absurd (m.none b s on);
-              kept = λ e r is has. (let at = m.kept b e is in let k = old.kept at.0 r at.1 (sym at.2 ∙ has) in record { takes = k.takes; holds = k.holds });
+              kept = λ e r is has. (let at = m.kept b e is in let k = old.kept at.0 r at.1 (sym at.2 ∙ has) in record { takes = k.takes; holds = k.holds; shown = k.shown });
             }));
         records = m.records;
         highest = m.highest;
@@ -279,7 +279,7 @@ none_wire own w v e' h down kept = record {
   window = h.window;
   prefix = h.prefix;
   going = λ s on. absurd (none_some s _ (session_of_down (with_end w e') e' refl down) on);
-  kept = λ d r is has. (let same : e' ≡ d = cc in let k = kept r (ap record_of same ∙ has) in record { takes = k.takes; holds = k.holds });
+  kept = λ d r is has. (let same : e' ≡ d = cc in let k = kept r (ap record_of same ∙ has) in record { takes = k.takes; holds = k.holds; shown = k.shown });
 }
 
 pub fell : (x y : View) (b : ℕ) (e : LinkEnd) (call : Call) → ArePaired x y → (x.wires b).end ≡ Some e → MayCall x y b call → Falls e.fsm (outcome e.fsm call)

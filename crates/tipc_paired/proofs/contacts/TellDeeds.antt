@@ -1,8 +1,9 @@
 -- A node tells its peer a frame.
-use Rattle.std.proofs.Common.{◌≡◌, ◌<◌, ◌≤◌, ◌-◌, ◌==◌, ◌^◌, ℕ, true, false, if◌then◌else◌, List, [], ◌∷◌, ◌++◌, Option, Some, None, length, refl, sym, ap, ◌∙◌, subst, inl, inr, arith}
+use Rattle.std.proofs.Common.{◌≡◌, ◌+◌, ◌<◌, ◌≤◌, ◌-◌, ◌==◌, ◌^◌, ℕ, true, false, if◌then◌else◌, List, [], ◌∷◌, ◌++◌, Option, Some, None, length, refl, sym, ap, ◌∙◌, subst, inl, inr, arith}
 use Rattle.std.proofs.lemmas.Bool.{cases_Bool, true≢false}
 use Rattle.std.proofs.lemmas.List.{map-append}
 use Rattle.tipc_types.specs.LinkStates.{is_up}
+use Rattle.tipc_types.specs.Position.{number_of}
 use Rattle.tipc_outside.specs.declared.outgoing.Outgoing.{Outgoing}
 use Rattle.tipc_header.specs.declared.packet.Header.{Header}
 use Rattle.tipc_header.specs.declared.packet.Header.TheVariants as header
@@ -179,6 +180,7 @@ session_said x y b s o h p es er said =
           told_recent = omega arith;
           told_met = taken_with x y b s h on;
           carried = λ number bytes is. subst (λ n. IsCarried (w.line s.epoch) n number bytes) (sym line) (said.carried number bytes is);
+          shows = λ next missed asks is. subst (λ n. next ≡ number_of (n + 1)) (sym line) (said.shows next missed asks is);
           recent = omega arith;
         };
       };
@@ -194,7 +196,7 @@ may_tell_said x y b _ h (activates e is unheld) =
 may_tell_said x y b _ h (states s shown probe on showable) =
     let p = present x y b s h on in
     let says = state_says s shown probe p.epoch_fits p.peer_fits in
-    session_said x y b s (state_frame s shown probe) h p says.es says.er (state_said x.node.own _ s ((x.wires b).line s.epoch) shown probe p.words p.going.holds.window showable)
+    session_said x y b s (state_frame s shown probe) h p says.es says.er (state_said x.node.own _ s ((x.wires b).line s.epoch) shown probe p.words p.going.holds.window showable p.going.sends.count)
 may_tell_said x y b _ h (sends s k packet on there) =
     let p = present x y b s h on in
     let line = (x.wires b).line s.epoch in

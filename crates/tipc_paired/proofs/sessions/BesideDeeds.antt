@@ -1,5 +1,5 @@
 -- One of two links goes up or down beside the other, hands over, or counts what came through the other.
-use Rattle.std.proofs.Common.{◌≡◌, ◌≤◌, ℕ, true, false, List, ◌++◌, Option, Some, None, option_map, length, refl, sym, ap, ◌∙◌, subst, inl, inr, arith}
+use Rattle.std.proofs.Common.{◌≡◌, ◌+◌, ◌≤◌, ℕ, true, false, List, ◌++◌, Option, Some, None, option_map, length, refl, sym, ap, ◌∙◌, subst, inl, inr, arith}
 use Rattle.std.proofs.lemmas.Bool.{cases_eq}
 use Rattle.tipc_types.specs.LinkStates.{is_up}
 use Rattle.tipc_types.specs.Prefixes.{IsPrefixOf}
@@ -107,6 +107,7 @@ pub record IsRecorded (e : LinkEnd) (r : Received) : Type 0 where
   pub epoch : kept.epoch ≡ r.epoch
   pub taken : kept.taken ≡ r.taken
   pub holds : (line : List (List ℕ)) → IsReceiver r.held r.taken line → IsReceiver kept.held kept.taken line
+  pub shown : (line : List (List ℕ)) → r.shown ≤ length line + 1 → kept.shown ≤ length line + 1
 
 pub recorded_is : (e : LinkEnd) (r : Received) → IsRecorded e r
 recorded_is e r = of e.session refl
@@ -118,6 +119,7 @@ recorded_is e r = of e.session refl
       epoch = refl;
       taken = refl;
       holds = λ line h. record { window = omega arith; wants = refl; holds = λ d t has. absurd (let none : ⊥ = cc in none) };
+      shown = λ line low. omega arith;
     }
     of (Some s) is = record {
       kept = r;
@@ -125,6 +127,7 @@ recorded_is e r = of e.session refl
       epoch = refl;
       taken = refl;
       holds = λ line h. h;
+      shown = λ line low. low;
     }
 
 -- the session then, which was the one before with another record
@@ -161,8 +164,8 @@ counted_steady n w e r more is =
 
 -- a session that is up has what its record counts
 counted_going : (own : ℕ) (w v : Wire) (e : LinkEnd) (r : Received) (more : List (List ℕ)) (s : SessionEnd) → IsGoing own w v s → s.peer_epoch ≡ r.epoch → length (w.got r.epoch ++ more) ≡ r.taken → IsReceiver r.held r.taken (v.line r.epoch)
-    → IsGoing own (with_counted w e r more) v (with_record s r)
-counted_going own w v e r more s g same takes holds = record {
+    → r.shown ≤ length (v.line r.epoch) + 1 → IsGoing own (with_counted w e r more) v (with_record s r)
+counted_going own w v e r more s g same takes holds shown = record {
   begun = g.begun;
   begun_is = g.begun_is;
   peer_is = g.peer_is;
@@ -170,6 +173,7 @@ counted_going own w v e r more s g same takes holds = record {
   sends = g.sends;
   takes = ap (λ n. length ((with_counted w e r more).got n)) same ∙ ap (λ (xs : List (List ℕ)). length xs) (put_same w.got r.epoch (w.got r.epoch ++ more)) ∙ takes;
   holds = subst (λ n. IsReceiver r.held r.taken (v.line n)) (sym same) holds;
+  shown = subst (λ n. r.shown ≤ length (v.line n) + 1) (sym same) shown;
   record_is = sym same;
 }
 
@@ -197,7 +201,7 @@ counted_wire x y b e r more h m =
       prefix = on_put w.got r.epoch (w.got r.epoch ++ more) (λ epoch xs. IsPrefixOf xs (v.line epoch)) m.next wire.prefix;
       going = λ s' on. (
           let old = counted_back w e r more s' m.end_is on in
-          subst (IsGoing x.node.own w' v) old.2 (counted_going x.node.own w v e r more old.0 (wire.going old.0 old.1) (counted_epoch x y b e r more old.0 h m old.1) m.takes m.holds));
+          subst (IsGoing x.node.own w' v) old.2 (counted_going x.node.own w v e r more old.0 (wire.going old.0 old.1) (counted_epoch x y b e r more old.0 h m old.1) m.takes m.holds m.shown));
       kept = λ d k is has. (
           let one : recorded e r ≡ d = cc in
           let t = recorded_is e r in
@@ -205,6 +209,7 @@ counted_wire x y b e r more h m =
           subst (IsRecordOf w' v) same (record {
             takes = ap (λ n. length (w'.got n)) t.epoch ∙ ap (λ (xs : List (List ℕ)). length xs) now ∙ m.takes ∙ sym t.taken;
             holds = subst (λ n. IsReceiver t.kept.held t.kept.taken (v.line n)) (sym t.epoch) (t.holds (v.line r.epoch) m.holds);
+            shown = subst (λ n. t.kept.shown ≤ length (v.line n) + 1) (sym t.epoch) (t.shown (v.line r.epoch) m.shown);
           }));
     }
 

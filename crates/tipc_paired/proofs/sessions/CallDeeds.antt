@@ -38,6 +38,7 @@ pub record AreSame (s s' : SessionEnd) : Type 0 where
   pub sending : s'.sending ≡ s.sending
   pub taken : s'.taken ≡ s.taken
   pub held : s'.held ≡ s.held
+  pub shown : s'.shown ≡ s.shown
   pub record_epoch : s'.record_epoch ≡ s.record_epoch
 
 pub record HaveSame (a b : Option SessionEnd) : Type 0 where
@@ -45,13 +46,13 @@ pub record HaveSame (a b : Option SessionEnd) : Type 0 where
   pub back : (s' : SessionEnd) → b ≡ Some s' → (s : SessionEnd) × (a ≡ Some s) × AreSame s s'
 
 same_same : (s : SessionEnd) → AreSame s s
-same_same s = record { alike = alike-same s; sending = refl; taken = refl; held = refl; record_epoch = refl }
+same_same s = record { alike = alike-same s; sending = refl; taken = refl; held = refl; shown = refl; record_epoch = refl }
 
 have_same : (a b : Option SessionEnd) → b ≡ a → HaveSame a b
 have_same a b same = record { onward = λ s is. (s, same ∙ is, same_same s); back = λ s is. (s, sym same ∙ is, same_same s) }
 
 told_same : (s : SessionEnd) → AreSame s (after_state s)
-told_same s = record { alike = record { own = refl; peer = refl; bearer = refl; epoch = refl; peer_epoch = refl }; sending = refl; taken = refl; held = refl; record_epoch = refl }
+told_same s = record { alike = record { own = refl; peer = refl; bearer = refl; epoch = refl; peer_epoch = refl }; sending = refl; taken = refl; held = refl; shown = refl; record_epoch = refl }
 
 have_told : (a : Option SessionEnd) → HaveSame a (option_map after_state a)
 have_told None = record { onward = λ s is. absurd (let wrong : ⊥ = cc in wrong); back = λ s is. absurd (let wrong : ⊥ = cc in wrong) }
@@ -113,6 +114,7 @@ going_same own w v e' s s' g m = record {
   holds = subst (λ z. IsReceiver z s'.taken (v.line s'.peer_epoch)) (sym m.held)
       (subst (λ n. IsReceiver s.held n (v.line s'.peer_epoch)) (sym m.taken)
       (subst (λ n. IsReceiver s.held s.taken (v.line n)) (sym m.alike.peer_epoch) g.holds));
+  shown = (let low = g.shown in let same = m.shown in let line = ap (λ n. length (v.line n)) m.alike.peer_epoch in omega (arith, low, same, line));
   record_is = m.record_epoch ∙ g.record_is ∙ sym m.alike.peer_epoch;
 }
 
@@ -123,7 +125,7 @@ wire_on own w v e e' h m = record {
   window = h.window;
   prefix = h.prefix;
   going = λ s' on. (let old = session_back w e e' m s' on in going_same own w v e' old.0 s' (h.going old.0 old.1) old.2);
-  kept = λ d r is has. (let same : e' ≡ d = cc in let k = h.kept e r m.end_is (sym m.record_is ∙ ap record_of same ∙ has) in record { takes = k.takes; holds = k.holds });
+  kept = λ d r is has. (let same : e' ≡ d = cc in let k = h.kept e r m.end_is (sym m.record_is ∙ ap record_of same ∙ has) in record { takes = k.takes; holds = k.holds; shown = k.shown });
 }
 
 records_end : (n : Node) (w v : Wire) (e e' : LinkEnd) → IsRecords n w v → GoesOn w e e' → IsRecords n (with_end w e') v

@@ -1,5 +1,5 @@
 -- A link goes up, and a session begins.
-use Rattle.std.proofs.Common.{◌≡◌, ◌==◌, ◌⊎◌, ◌<◌, ◌≤◌, ◌^◌, ℕ, if◌then◌else◌, true, false, List, [], Option, Some, None, length, refl, sym, ap, ◌∙◌, subst, inl, inr, arith}
+use Rattle.std.proofs.Common.{◌≡◌, ◌+◌, ◌==◌, ◌⊎◌, ◌<◌, ◌≤◌, ◌^◌, ℕ, if◌then◌else◌, true, false, List, [], Option, Some, None, length, refl, sym, ap, ◌∙◌, subst, inl, inr, arith}
 use Rattle.std.specs.Prelude.{slice_get}
 use Rattle.std.proofs.lemmas.Bool.{true≢false}
 use Rattle.tipc_contact.specs.Peers.{ArePeers}
@@ -68,7 +68,7 @@ new_record : (own : ℕ) (w v : Wire) (e : LinkEnd) (es : ℕ) → IsWire own w 
 new_record own w v e es h is none = of (record_of e) (λ r has. h.kept e r is has)
   where
     new : IsRecordOf w v (unheard es)
-    new = record { takes = ap (λ (xs : List (List ℕ)). length xs) none; holds = holds_none _ }
+    new = record { takes = ap (λ (xs : List (List ℕ)). length xs) none; holds = holds_none _; shown = omega arith }
 
     of : (o : Option Received) → ((r : Received) → o ≡ Some r → IsRecordOf w v r) → IsRecordOf w v (kept_for o es)
     of None kept = new
@@ -128,6 +128,7 @@ went_wire x y b e e' es h m =
         sends = new_direction 0 _ _ no_line no_got;
         takes = ap (λ n. length (w.got n)) (sym record_is) ∙ kept_record.takes;
         holds = subst (λ n. IsReceiver s.held s.taken (v.line n)) record_is kept_record.holds;
+        shown = subst (λ n. s.shown ≤ length (v.line n) + 1) record_is kept_record.shown;
         record_is = record_is;
       });
       kept = λ d r end has. (
@@ -135,7 +136,7 @@ went_wire x y b e e' es h m =
           let is : record_in e'.session e'.early ≡ Some (receiving_record s) = ap (λ o. record_in o e'.early) m.raised.session in
           let same : receiving_record s ≡ r = same_some (receiving_record s) r (record_of e') is (ap record_of one ∙ has) in
           let k = subst (IsRecordOf w v) same kept_record in
-          record { takes = k.takes; holds = k.holds });
+          record { takes = k.takes; holds = k.holds; shown = k.shown });
     }
 
 -- its record is of the epoch under which it goes up

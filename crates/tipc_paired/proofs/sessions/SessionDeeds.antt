@@ -1,5 +1,5 @@
 -- What happens to a session: it reads an acknowledgement, takes packets, and numbers those that wait.
-use Rattle.std.proofs.Common.{◌≡◌, ◌⊎◌, ℕ, ◌≤◌, ◌<◌, ◌^◌, true, List, Option, Some, length, refl, sym, ap, ◌∙◌, subst, inl, inr, arith}
+use Rattle.std.proofs.Common.{◌≡◌, ◌+◌, ◌⊎◌, ℕ, ◌≤◌, ◌<◌, ◌^◌, true, List, Option, Some, length, refl, sym, ap, ◌∙◌, subst, inl, inr, arith}
 use Rattle.tipc_header.specs.Frames.{frame_of}
 use Rattle.tipc_header.specs.Spelling.{Fields, spelling}
 use Rattle.tipc_link.specs.Direction.{IsDirection, IsReceiver}
@@ -82,6 +82,7 @@ record_going : (own : ℕ) (w v : Wire) (s : SessionEnd) → IsGoing own w v s �
 record_going own w v s g = record {
   takes = ap (λ n. length (w.got n)) g.record_is ∙ g.takes;
   holds = subst (λ n. IsReceiver s.held s.taken (v.line n)) (sym g.record_is) g.holds;
+  shown = subst (λ n. s.shown ≤ length (v.line n) + 1) (sym g.record_is) g.shown;
 }
 
 -- the record of the end whose session this is
@@ -110,8 +111,8 @@ going_of x y b e s h up = (h.here.wires b).going s (session_of_up (x.wires b) e 
 -- ---- something is kept for the answers, and packets wait
 
 pub notes_paired : (x y : View) (b : ℕ) (e : LinkEnd) (s : SessionEnd) (shown : ℕ) (unanswered : Unanswered) (owes : Bool) → ArePaired x y → IsUp (x.wires b) e s
-    → ArePaired (with_wire x b (with_going (x.wires b) e (record s { shown = shown; unanswered = unanswered; owes = owes }))) y
-notes_paired x y b e s shown unanswered owes h up =
+    → shown ≤ length ((y.wires b).line s.peer_epoch) + 1 → ArePaired (with_wire x b (with_going (x.wires b) e (record s { shown = shown; unanswered = unanswered; owes = owes }))) y
+notes_paired x y b e s shown unanswered owes h up most =
     let w = x.wires b in
     let s' : SessionEnd = record s { shown = shown; unanswered = unanswered; owes = owes } in
     let g = going_of x y b e s h up in
@@ -124,6 +125,7 @@ notes_paired x y b e s shown unanswered owes h up =
       sends = g.sends;
       takes = g.takes;
       holds = g.holds;
+      shown = most;
       record_is = g.record_is;
     }))
 
@@ -143,6 +145,7 @@ puts_paired x y b e s waiting h up packets =
       sends = record { window = d.window; below = d.below; count = d.count; kept = d.kept; acked_taken = d.acked_taken; taken_numbered = d.taken_numbered };
       takes = g.takes;
       holds = g.holds;
+      shown = g.shown;
       record_is = g.record_is;
     }))
 
@@ -203,5 +206,6 @@ releases_paired x y b e s p h up a =
       sends = subst (λ n. IsDirection (after_acknowledgement s n).sending (length ((y.wires b).got s.epoch)) (w.line s.epoch)) (sym o.told_is) d;
       takes = g.takes;
       holds = g.holds;
+      shown = g.shown;
       record_is = g.record_is;
     }))

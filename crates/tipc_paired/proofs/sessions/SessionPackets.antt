@@ -75,6 +75,7 @@ takes_paired x y b e s p number by packet h up a is =
       sends = g.sends;
       takes = ap (λ (xs : List (List ℕ)). length xs) now ∙ (let sum : length (w.got s.peer_epoch ++ due) ≡ s'.taken = omega arith in sum);
       holds = m.receiver;
+      shown = g.shown;
       record_is = g.record_is;
     } in
     session_step x y b e s s' w.line got h up (record { own = refl; peer = refl; bearer = refl; epoch = refl; peer_epoch = refl }) refl
@@ -119,6 +120,7 @@ numbers_paired x y b e s h up =
       sends = subst (IsDirection s'.sending (length (v.got s.epoch))) (sym now) moved;
       takes = g.takes;
       holds = g.holds;
+      shown = g.shown;
       record_is = g.record_is;
     } in
     session_step x y b e s s' line w.got h up (record { own = refl; peer = refl; bearer = refl; epoch = refl; peer_epoch = refl }) refl (λ epoch. inl refl)

@@ -71,6 +71,7 @@ pub record IsSaid (own es er told numbered : ℕ) (put : List (List ℕ)) (bytes
   pub traffic : is_traffic packet.header ≡ true
   pub told_is : packet.acknowledgement ≡ number_of told
   pub carried : (number : ℕ) (carries : List ℕ) → content_of packet ≡ Carries number carries → IsCarried put numbered number carries
+  pub shows : (next gap : ℕ) (probe : Bool) → content_of packet ≡ Shows next gap probe → next ≡ number_of (numbered + 1)
 
 -- the words of a session
 pub record IsWorded (node : ℕ) (s : SessionEnd) : Type 0 where
@@ -141,8 +142,9 @@ unfolding state_fields
 state_traffic s shown probe = refl
 
 -- a STATE of a session says what was taken, and carries nothing
-pub state_said : (own numbered : ℕ) (s : SessionEnd) (put : List (List ℕ)) (shown : BroadcastState) (probe : Bool) → IsWorded own s → length s.held ≤ 50 → IsShowable shown → IsSaid own s.epoch s.peer_epoch s.taken numbered put (state_frame s shown probe).frame
-state_said own numbered s put shown probe words window showable = record {
+pub state_said : (own numbered : ℕ) (s : SessionEnd) (put : List (List ℕ)) (shown : BroadcastState) (probe : Bool) → IsWorded own s → length s.held ≤ 50 → IsShowable shown → numbered ≡ s.sending.numbered
+    → IsSaid own s.epoch s.peer_epoch s.taken numbered put (state_frame s shown probe).frame
+state_said own numbered s put shown probe words window showable count = record {
   packet = state_fields s shown probe;
   fits = state_fits own s shown probe words window showable;
   frame = refl;
@@ -150,6 +152,10 @@ state_said own numbered s put shown probe words window showable = record {
   traffic = state_traffic s shown probe;
   told_is = state_acknowledges s shown probe;
   carried = λ number carries is. let shows = state_content s shown probe in absurd (let wrong : ⊥ = cc in wrong);
+  shows = λ next missed asks is. (
+      let shows = state_content s shown probe in
+      let same : next ≡ number_of (s.sending.numbered + 1) = cc in
+      same ∙ ap (λ n. number_of (n + 1)) (sym count));
 }
 
 -- a STATE shows the epochs of its session
@@ -206,6 +212,7 @@ packet_said own numbered num s line q words h carried =
           let same_number : num ≡ number = cc in
           let same_packet : q ≡ carries = cc in
           subst (λ m. IsCarried line numbered m carries) same_number (subst (λ p. IsCarried line numbered num p) same_packet carried);
+      shows = λ next missed asks is. absurd (let wrong : ⊥ = cc in wrong);
     }
 
 -- a packet that was numbered shows the epochs of its session

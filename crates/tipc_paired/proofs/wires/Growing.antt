@@ -38,9 +38,10 @@ wire_back own v w w' h grows within = record {
     sends = more_taken s.sending _ _ (v.line s.epoch) (prefix_long _ _ (grows.got s.epoch)) (prefix_long _ _ (within s.epoch)) g.sends;
     takes = g.takes;
     holds = IsReceiver-stays s.held s.taken _ _ (prefix_extends _ _ (grows.line s.peer_epoch)) g.holds;
+    shown = (let low = g.shown in let more = prefix_long _ _ (grows.line s.peer_epoch) in omega arith);
     record_is = g.record_is;
   });
-  kept = λ e r is has. (let k = h.kept e r is has in record { takes = k.takes; holds = IsReceiver-stays r.held r.taken _ _ (prefix_extends _ _ (grows.line r.epoch)) k.holds });
+  kept = λ e r is has. (let k = h.kept e r is has in record { takes = k.takes; holds = IsReceiver-stays r.held r.taken _ _ (prefix_extends _ _ (grows.line r.epoch)) k.holds; shown = (let low = k.shown in let more = prefix_long _ _ (grows.line r.epoch) in omega arith) });
 }
 
 -- and what it took of the sessions of that node
@@ -90,6 +91,7 @@ frame_here own w w' v f h grows = record {
         told_met = s.told_met;
         carried = λ number bytes is. IsCarried-stays _ _ _ number bytes (prefix_extends _ _ (grows.line h.es)) (s.carried number bytes is);
         recent = s.recent;
+        shows = s.shows;
       };
 }
 
@@ -123,6 +125,7 @@ frame_back own v w w' f h grows = record {
         told_met = with_back w w' s.told h.er h.es grows s.told_met;
         carried = s.carried;
         recent = omega arith;
+        shows = s.shows;
       };
 }
 

@@ -54,7 +54,7 @@ works_now x y _ h (turns b e mended is) = same_lines x b _ (λ epoch. refl)
 works_now x y _ h (calls b e call is may quiet) = same_lines x b _ (λ epoch. refl)
 works_now x y _ h (shows number higher fits apart heard) = λ b epoch. inl refl
 works_now x y _ h (releases b e s p up heard) = same_lines x b _ (λ epoch. refl)
-works_now x y _ h (notes b e s seen unanswered owes up) = same_lines x b _ (λ epoch. refl)
+works_now x y _ h (notes b e s seen unanswered owes up most) = same_lines x b _ (λ epoch. refl)
 works_now x y _ h (numbers b e s up) = numbers_now x y b e s _ h up
 works_now x y _ h (tells b o may) = λ b epoch. inl refl
 
@@ -121,7 +121,7 @@ works_got x y _ (turns b e mended is) = same_got x y b _ (λ epoch. refl)
 works_got x y _ (calls b e call is may quiet) = same_got x y b _ (λ epoch. refl)
 works_got x y _ (shows number higher fits apart heard) = λ b epoch. inl refl
 works_got x y _ (releases b e s p up heard) = same_got x y b _ (λ epoch. refl)
-works_got x y _ (notes b e s seen unanswered owes up) = same_got x y b _ (λ epoch. refl)
+works_got x y _ (notes b e s seen unanswered owes up most) = same_got x y b _ (λ epoch. refl)
 works_got x y _ (numbers b e s up) = same_got x y b _ (λ epoch. refl)
 works_got x y _ (tells b o may) = λ b epoch. inl refl
 

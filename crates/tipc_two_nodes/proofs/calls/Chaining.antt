@@ -169,7 +169,7 @@ works_goes x y _ n h are (turns b e mended is) = inl (keeps_along x y n b _ (goe
 works_goes x y _ n h are (calls b e call is may quiet) = inl (keeps_along x y n b _ (goes_keeps x.node (x.wires b) e (after e (outcome e.fsm call)) (calls_on x y b e call is may quiet)))
 works_goes x y _ n h are (shows number higher fits apart heard) = inr (shown refl refl higher)
 works_goes x y _ n h are (releases b e s p up heard) = inl (keeps_along x y n b _ (session_keeps x.node (x.wires b) e s (after_acknowledgement s p.acknowledgement) (x.wires b).line (x.wires b).got up))
-works_goes x y _ n h are (notes b e s seen unanswered owes up) = inl (keeps_along x y n b _ (session_keeps x.node (x.wires b) e s (record s { shown = seen; unanswered = unanswered; owes = owes }) (x.wires b).line (x.wires b).got up))
+works_goes x y _ n h are (notes b e s seen unanswered owes up most) = inl (keeps_along x y n b _ (session_keeps x.node (x.wires b) e s (record s { shown = seen; unanswered = unanswered; owes = owes }) (x.wires b).line (x.wires b).got up))
 works_goes x y _ n h are (numbers b e s up) = inl (keeps_along x y n b _ (session_keeps x.node (x.wires b) e s (flushed s) (put_at (x.wires b).line s.epoch ((x.wires b).line s.epoch ++ moving s)) (x.wires b).got up))
 works_goes x y _ n h are (tells b o may) = inl (record {
   stays = tells_stays x y n (framed x y b o) are refl refl (told_epoch x y b o h may);
@@ -209,7 +209,7 @@ order_of x y _ (works _ (turns b e mended is)) = inl refl
 order_of x y _ (works _ (calls b e call is may quiet)) = inl refl
 order_of x y _ (works _ (shows number higher fits apart heard)) = inr (shown refl refl higher)
 order_of x y _ (works _ (releases b e s p up heard)) = inl refl
-order_of x y _ (works _ (notes b e s seen unanswered owes up)) = inl refl
+order_of x y _ (works _ (notes b e s seen unanswered owes up most)) = inl refl
 order_of x y _ (works _ (numbers b e s up)) = inl refl
 order_of x y _ (works _ (tells b o may)) = inl refl
 order_of x y _ (changes _ (rises b e call is may up apart)) = inl refl

@@ -180,7 +180,8 @@ answer_takes_up v y x e s taken asks shown h pair up showable =
     let told = did_tell v y b said (each (MayTell (v.wires b)) (states s shown false on showable)) (each (λ (q : Outgoing). q.bearer ≡ b) bearer) in
     let after_it = answered (read taken asks s) in
     let w' = with_going (mid.wires b) e after_it in
-    let one : DoesDeed mid y (with_wire mid b w') = works _ (notes b e s s.shown after_it.unanswered after_it.owes up) in
+    let going = (h.here.wires b).going s on in
+    let one : DoesDeed mid y (with_wire mid b w') = works _ (notes b e s s.shown after_it.unanswered after_it.owes up going.shown) in
     let noted = did_on mid y b w' one (λ k. refl) (λ k. refl) in (
       with_wire mid b w',
       record {

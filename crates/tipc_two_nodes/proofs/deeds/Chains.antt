@@ -18,7 +18,7 @@ work_told x y _ (turns b e mended is) = ([], sym (append-nil x.told))
 work_told x y _ (calls b e call is may quiet) = ([], sym (append-nil x.told))
 work_told x y _ (shows number higher fits apart heard) = ([], sym (append-nil x.told))
 work_told x y _ (releases b e s p up a) = ([], sym (append-nil x.told))
-work_told x y _ (notes b e s shown unanswered owes up) = ([], sym (append-nil x.told))
+work_told x y _ (notes b e s shown unanswered owes up most) = ([], sym (append-nil x.told))
 work_told x y _ (numbers b e s up) = ([], sym (append-nil x.told))
 work_told x y _ (tells b o may) = (framed x y b o ∷ [], refl)
 

@@ -1,18 +1,23 @@
 -- A STATE or a numbered packet of the session arrives at a link that is up.
-use Rattle.std.proofs.Common.{◌≡◌, ◌≤◌, ◌+◌, ℕ, Bool, List, [], ◌∷◌, ◌++◌, Some, length, refl, sym, ap, ◌∙◌, subst, inl, inr, append-nil}
-use Rattle.std.proofs.lemmas.Bool.{cases_eq}
+use Rattle.std.proofs.Common.{◌≡◌, ◌≤◌, ◌+◌, ◌-◌, nat_le, ℕ, Bool, true, false, List, [], ◌∷◌, ◌++◌, Some, length, refl, sym, ap, ◌∙◌, subst, inl, inr, append-nil, arith}
+use Rattle.std.proofs.lemmas.Bool.{cases_eq, cases_lt}
+use Rattle.std.proofs.lemmas.Bool.Decides.{nat_tests}
+use Rattle.tipc_types.specs.Position.{number_of}
+use Rattle.tipc_types.proofs.PositionLaws.{distance_of-ahead, distance_of-behind}
+use Rattle.tipc_recv_window.specs.Receiving.{ahead}
 use Rattle.tipc_types.specs.declared.packet_lists.Kept.{Kept}
 use Rattle.tipc_outside.specs.declared.outgoing.Outgoing.{Outgoing}
 use Rattle.tipc_header.specs.Spelling.{Fields}
 use Rattle.tipc_link.specs.Links.{LinkEnd, newly_numbered, sent_again, with_session}
 use Rattle.tipc_link.specs.Parts.{packets_in}
-use Rattle.tipc_link.specs.Sessions.{Carries, Content, Nothing, SessionEnd, Shows, arrived, brought, content_of, due_with, flush_frames, flushed, heard, moving, noted, packet_frame, after_acknowledgement as acknowledged, repeat_frames, repeated, spoke, took}
+use Rattle.tipc_link.specs.Sessions.{Carries, Content, Nothing, SessionEnd, Shows, arrived, brought, content_of, due_with, flush_frames, flushed, heard, highest, moving, noted, packet_frame, past, after_acknowledgement as acknowledged, repeat_frames, repeated, spoke, took}
 use Rattle.tipc_link.proofs.LinkLaw.{Each, Each-map, Each-none}
 use Rattle.tipc_pair.specs.Courses.{rests}
 use Rattle.tipc_pair.specs.Facing.{PairEnds, with_near}
 use Rattle.tipc_paired.proofs.PairedLaw.{all_paired}
+use Rattle.tipc_paired.proofs.sessions.SessionDeeds.{hears_session}
 use Rattle.tipc_paired.proofs.sessions.SessionFrames.{repeats_may}
-use Rattle.tipc_paired.proofs.wires.Wires.{on_put, put_other, put_same, session_of_up}
+use Rattle.tipc_paired.proofs.wires.Wires.{on_put, prefix_long, put_other, put_same, session_of_up}
 use Rattle.tipc_paired.specs.Deeds.{DoesDeed, Hears, IsUp, follows, notes, nothing, releases, takes, with_going, with_taken, works}
 use Rattle.tipc_paired.specs.Paired.{ArePaired}
 use Rattle.tipc_paired.specs.Views.{View, Wire, put_at, with_wire}
@@ -85,6 +90,40 @@ noted_as : {A : Type 0} (s : SessionEnd) (frames : List A) (next : ℕ) (probe :
 noted_as s [] next probe = refl
 noted_as s (first ∷ others) next probe = refl
 
+-- ---- what a STATE shows
+
+-- the position that a STATE shows, where that is no more than 30,050 old, leaves no higher one than the next that its sender will number
+highest_most : (s : SessionEnd) (told numbered : ℕ) → s.shown ≤ numbered + 1 → s.taken ≤ numbered → numbered ≤ s.taken + 50 → told ≤ numbered → numbered ≤ told + 30050 → highest s (number_of (told + 1)) ≤ numbered + 1
+unfolding highest ahead
+highest_most s told numbered shown taken near within fresh = elim (cases_lt told s.taken) [
+  | inl before ↦
+      let far : past s (number_of (told + 1)) + (s.taken + 1) ≡ 65536 + (told + 1) = distance_of-behind (s.taken + 1) (told + 1) (omega (arith, before)) (omega (arith, taken, fresh)) in
+      let test : nat_le (past s (number_of (told + 1))) 32767 ≡ false = grind (arith, nat_tests, far, taken, fresh) in
+      rw test (omega (arith, shown, taken))
+  | inr after ↦
+      let far : past s (number_of (told + 1)) ≡ told + 1 - (s.taken + 1) = distance_of-ahead (s.taken + 1) (told + 1) (omega (arith, after)) (omega (arith, within, near)) in
+      let test : nat_le (told + 1 - (s.taken + 1)) 32767 ≡ true = grind (arith, nat_tests, within, near) in
+      rw far (rw test (omega (arith, shown, within, after)))
+]
+
+-- what was sent again changes nothing of that
+noted_shown : {A : Type 0} (s : SessionEnd) (acknowledgement : ℕ) (frames : List A) (next : ℕ) (probe : Bool) → (noted (spoke (acknowledged s acknowledgement) frames) next probe).shown ≡ highest s next
+unfolding highest ahead
+noted_shown s acknowledgement [] next probe = refl
+noted_shown s acknowledgement (first ∷ others) next probe = refl
+
+-- a session that hears a STATE keeps no position above the one that the peer has
+hears_most : (v y : View) (b : ℕ) (e : LinkEnd) (s : SessionEnd) (p : Fields) (next missed : ℕ) (probe : Bool) → ArePaired v y → IsUp (v.wires b) e s → Hears v y b s p → content_of p ≡ Shows next missed probe
+    → highest s next ≤ length ((y.wires b).line s.peer_epoch) + 1
+hears_most v y b e s p next missed probe h up a is =
+    let o = hears_session v y b e s p h up a in
+    let g = (h.here.wires b).going s (session_of_up (v.wires b) e s up) in
+    let took_it = g.takes in
+    let front = prefix_long ((v.wires b).got s.peer_epoch) ((y.wires b).line s.peer_epoch) ((h.here.wires b).prefix s.peer_epoch) in
+    let window = (h.there.wires b).window s.peer_epoch in
+    subst (λ n. highest s n ≤ length ((y.wires b).line s.peer_epoch) + 1) (sym (o.shows next missed probe is))
+    (highest_most s a.frame.numbered (length ((y.wires b).line s.peer_epoch)) g.shown (omega (arith, took_it, front)) (omega (arith, took_it, window)) o.so_far a.peer_fresh)
+
 hears_content : (v y : View) (b : ℕ) (e : LinkEnd) (s : SessionEnd) (p : Fields) (by : ℕ) (c : Content) → ArePaired v y → IsUp (v.wires b) e s → Hears v y b s p → content_of p ≡ c → (c ≡ Nothing → ⊥)
     → (after : View) × Became v y after b e (heard s by p.acknowledgement c) (sent_again (Some s) p.acknowledgement c) (more_at b s.peer_epoch (taken_of s p by c))
 hears_content v y b e s p by Nothing h up a is some = absurd (some refl)
@@ -128,7 +167,8 @@ hears_content v y b e s p by (Shows next missed probe) h up a is some =
     let s3 : SessionEnd = record s1 { shown = s2.shown; unanswered = s2.unanswered; owes = s2.owes } in
     let w' = with_going (mid.wires b) e1 s3 in
     let v2 = with_wire mid b w' in
-    let one : DoesDeed mid y v2 = works v2 (notes b e1 s1 s2.shown s2.unanswered s2.owes first.1.up) in
+    let most = subst (λ n. n ≤ length ((y.wires b).line s.peer_epoch) + 1) (sym (noted_shown s p.acknowledgement (repeated s1 p.acknowledgement missed) next probe)) (hears_most v y b e s p next missed probe h up a is) in
+    let one : DoesDeed mid y v2 = works v2 (notes b e1 s1 s2.shown s2.unanswered s2.owes first.1.up most) in
     let noted_it = did_on mid y b w' one (λ k. refl) (λ k. refl) in
     let none = none_taken_at b s.peer_epoch in (
       v2,

@@ -83,7 +83,7 @@ work_counted x y _ h paired (turns b e mended is) = counted_on x b _ h (λ d s i
 work_counted x y _ h paired (calls b e call is may quiet) = counted_on x b _ h (called_counted (x.wires b) e call (h b) is (quiet_no_up (outcome e.fsm call).change quiet))
 work_counted x y _ h paired (shows number higher fits apart heard) = λ b. mapped_counted (forgot_with number) (x.wires b) (λ e. refl) (h b)
 work_counted x y _ h paired (releases b e s p up a) = up_on_put x y b _ (with_session e _) _ h paired (record { end_is = refl; up = up.up; session_is = refl })
-work_counted x y _ h paired (notes b e s shown unanswered owes up) = up_on_put x y b _ (with_session e _) _ h paired (record { end_is = refl; up = up.up; session_is = refl })
+work_counted x y _ h paired (notes b e s shown unanswered owes up most) = up_on_put x y b _ (with_session e _) _ h paired (record { end_is = refl; up = up.up; session_is = refl })
 work_counted x y _ h paired (numbers b e s up) = up_on_put x y b _ (with_session e (flushed s)) (flushed s) h paired (record { end_is = refl; up = up.up; session_is = refl })
 work_counted x y _ h paired (tells b o may) = h
 
@@ -156,7 +156,7 @@ told_by_work x y _ k f (turns b e mended is) there = inl there
 told_by_work x y _ k f (calls b e call is may quiet) there = inl there
 told_by_work x y _ k f (shows number higher fits apart heard) there = inl there
 told_by_work x y _ k f (releases b e s p up a) there = inl there
-told_by_work x y _ k f (notes b e s shown unanswered owes up) there = inl there
+told_by_work x y _ k f (notes b e s shown unanswered owes up most) there = inl there
 told_by_work x y _ k f (numbers b e s up) there = inl there
 told_by_work x y _ k f (tells b o may) there = last_of x.told k there where
   last_of : (after_state : List Frame) (k : ℕ) → slice_get (after_state ++ framed x y b o ∷ []) k ≡ Some f → (slice_get after_state k ≡ Some f) ⊎ Tells x y x f
@@ -217,7 +217,7 @@ works_same x y _ (turns b e mended is) = same_node x.node x.node refl
 works_same x y _ (calls b e call is may quiet) = same_node x.node x.node refl
 works_same x y _ (shows number higher fits apart heard) = record { own = refl; peer = refl }
 works_same x y _ (releases b e s p up a) = same_node x.node x.node refl
-works_same x y _ (notes b e s shown unanswered owes up) = same_node x.node x.node refl
+works_same x y _ (notes b e s shown unanswered owes up most) = same_node x.node x.node refl
 works_same x y _ (numbers b e s up) = same_node x.node x.node refl
 works_same x y _ (tells b o may) = same_node x.node x.node refl
 

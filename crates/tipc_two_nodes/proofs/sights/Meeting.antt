@@ -36,7 +36,7 @@ works_stay x y _ (turns b e mended is) = stays_on x b _ (λ epoch g is. is)
 works_stay x y _ (calls b e call is may quiet) = stays_on x b _ (λ epoch g is. is)
 works_stay x y _ (shows number higher fits apart heard) = λ b epoch g is. is
 works_stay x y _ (releases b e s p up heard) = stays_on x b _ (λ epoch g is. is)
-works_stay x y _ (notes b e s shown unanswered owes up) = stays_on x b _ (λ epoch g is. is)
+works_stay x y _ (notes b e s shown unanswered owes up most) = stays_on x b _ (λ epoch g is. is)
 works_stay x y _ (numbers b e s up) = stays_on x b _ (λ epoch g is. is)
 works_stay x y _ (tells b o may) = λ b epoch g is. is
 

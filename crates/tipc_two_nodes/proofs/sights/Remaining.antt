@@ -48,7 +48,7 @@ works_remain x y _ h up (turns b e mended is) = up_on x b _ (goes_keeps x.node (
 works_remain x y _ h up (calls b e call is may quiet) = up_on x b _ (goes_keeps x.node (x.wires b) e (after e (outcome e.fsm call)) (calls_on x y b e call is may quiet)) up
 works_remain x y _ h up (shows number higher fits apart heard) = absurd (apart_up x apart up)
 works_remain x y _ h up (releases b e s p on heard) = up_on x b _ (session_keeps x.node (x.wires b) e s (after_acknowledgement s p.acknowledgement) (x.wires b).line (x.wires b).got on) up
-works_remain x y _ h up (notes b e s seen unanswered owes on) = up_on x b _ (session_keeps x.node (x.wires b) e s (record s { shown = seen; unanswered = unanswered; owes = owes }) (x.wires b).line (x.wires b).got on) up
+works_remain x y _ h up (notes b e s seen unanswered owes on most) = up_on x b _ (session_keeps x.node (x.wires b) e s (record s { shown = seen; unanswered = unanswered; owes = owes }) (x.wires b).line (x.wires b).got on) up
 works_remain x y _ h up (numbers b e s on) = up_on x b _ (session_keeps x.node (x.wires b) e s (flushed s) (put_at (x.wires b).line s.epoch _) (x.wires b).got on) up
 works_remain x y _ h up (tells b o may) = inl (refl, record { bearer = up.bearer; session = up.session; session_is = up.session_is })
 
@@ -80,7 +80,7 @@ does_rise x y _ h (works _ (turns b e mended is)) = omega arith
 does_rise x y _ h (works _ (calls b e call is may quiet)) = omega arith
 does_rise x y _ h (works _ (shows number higher fits apart heard)) = omega arith
 does_rise x y _ h (works _ (releases b e s p up heard)) = omega arith
-does_rise x y _ h (works _ (notes b e s seen unanswered owes up)) = omega arith
+does_rise x y _ h (works _ (notes b e s seen unanswered owes up most)) = omega arith
 does_rise x y _ h (works _ (numbers b e s up)) = omega arith
 does_rise x y _ h (works _ (tells b o may)) = omega arith
 does_rise x y _ h (changes _ (rises b e call is may up apart)) = omega arith
@@ -134,7 +134,7 @@ does_stay x y _ (works _ (turns b e mended is)) = put_stays x b _ (_, refl)
 does_stay x y _ (works _ (calls b e call is may quiet)) = put_stays x b _ (_, refl)
 does_stay x y _ (works _ (shows number higher fits apart heard)) = inl (λ b h. mapped_has (forgot_with number) (x.wires b) ((risen_view x number).wires b) refl h)
 does_stay x y _ (works _ (releases b e s p up heard)) = put_stays x b _ (_, refl)
-does_stay x y _ (works _ (notes b e s seen unanswered owes up)) = put_stays x b _ (_, refl)
+does_stay x y _ (works _ (notes b e s seen unanswered owes up most)) = put_stays x b _ (_, refl)
 does_stay x y _ (works _ (numbers b e s up)) = put_stays x b _ (_, refl)
 does_stay x y _ (works _ (tells b o may)) = inl (λ b h. h)
 does_stay x y _ (changes _ (rises b e call is may up apart)) = put_stays x b _ (_, refl)

@@ -163,7 +163,7 @@ works_recorded x y x' are (turns b e mended is) = goes_recorded x y b e (record 
 works_recorded x y x' are (calls b e call is may quiet) = goes_recorded x y b e (after e (outcome e.fsm call)) (calls_on x y b e call is may quiet) are
 works_recorded x y x' are (shows number higher fits apart heard) = risen_recorded x y number higher apart are
 works_recorded x y x' are (releases b e s p up heard) = session_recorded x y b e s (after_acknowledgement s p.acknowledgement) (x.wires b).line (x.wires b).got up refl refl refl are
-works_recorded x y x' are (notes b e s shown unanswered owes up) = session_recorded x y b e s (record s { shown = shown; unanswered = unanswered; owes = owes }) (x.wires b).line (x.wires b).got up refl refl refl are
+works_recorded x y x' are (notes b e s shown unanswered owes up most) = session_recorded x y b e s (record s { shown = shown; unanswered = unanswered; owes = owes }) (x.wires b).line (x.wires b).got up refl refl refl are
 works_recorded x y x' are (numbers b e s up) = session_recorded x y b e s (flushed s) (put_at (x.wires b).line s.epoch ((x.wires b).line s.epoch ++ moving s)) (x.wires b).got up refl refl refl are
 works_recorded x y x' are (tells b o may) = tells_recorded x y (framed x y b o) are
 
