@@ -19,5 +19,6 @@ pub mod Truth
 pub mod Reaching
 pub mod Ordered
 pub mod Known
+pub mod Joined
 pub mod HeardIn
 pub mod Meeting

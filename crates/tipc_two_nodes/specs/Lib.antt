@@ -2,6 +2,7 @@ pub mod ArrivalLaws
 pub mod Arrivals
 pub mod Carriages
 pub mod Carrying
+pub mod Joined
 pub mod Known
 pub mod Messages
 pub mod NoticeLaws

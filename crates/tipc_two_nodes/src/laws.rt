@@ -1,5 +1,6 @@
 //! Laws of two nodes with a pair each. They do nothing when they run.
 
+ghost use Rattle.tipc_two_nodes.specs.Joined.{StandingAreJoined};
 ghost use Rattle.tipc_two_nodes.specs.Known.{ContactTellsPresent, NothingHigherIsKnown, PresentTellsContact};
 ghost use Rattle.tipc_two_nodes.specs.Order.{BothInOne, EnteredNotYounger, EnteredPast, EnteredRise, EntersMet, HeardInContact, NoneMet, SeenNoHigher, SessionInContact, StepsMet, TurnedMet};
 ghost use Rattle.tipc_two_nodes.specs.Reaching.{ReachedAreFronts, ReachedAreSeen};
@@ -54,4 +55,10 @@ pub fn what_nodes_know()
     ensures no_higher { NothingHigherIsKnown }
     ensures contact { PresentTellsContact }
     ensures present { ContactTellsPresent }
+{}
+
+/// Two link ends that are up on a bearer, each with the other's epoch, are in sessions that are joined: what one numbered the other took, holds or
+/// lacks, and was shown no more than the next position. So what tipc_repair says of a packet that was lost is true of them, both ways.
+pub fn links_that_stand_are_joined()
+    ensures { StandingAreJoined }
 {}
