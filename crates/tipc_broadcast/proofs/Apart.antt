@@ -1,5 +1,5 @@
 -- What happens with one peer leaves the contact with another, and so what a STATE to that one shows, but for the next number.
-use Rattle.std.proofs.Common.{◌≡◌, ◌∙◌, ◌+◌, ◌≤◌, ℕ, ◌==◌, Bool, true, false, not, cond, if◌then◌else◌, List, [], ◌∷◌, ◌++◌, Option, Some, None, length, refl, sym, ap, length-drop, eqb-true, arith}
+use Rattle.std.proofs.Common.{◌≡◌, ◌∙◌, ◌+◌, ◌≤◌, ℕ, ◌==◌, Bool, true, false, not, cond, if◌then◌else◌, List, [], ◌∷◌, ◌++◌, Option, Some, None, length, refl, sym, ap, length-drop, eqb-true, arith, zero, suc}
 use Rattle.std.specs.Prelude.{◌||◌}
 use Rattle.std.specs.Option.{option_or}
 use Rattle.std.specs.List.{list_all}
@@ -9,7 +9,7 @@ use Rattle.tipc_types.specs.Position.{number_of}
 use Rattle.tipc_types.specs.declared.link_words.BroadcastState.{BroadcastState}
 use Rattle.tipc_recv_window.specs.Receiving.{Receiving}
 use Rattle.tipc_broadcast.specs.declared.contacts.Contact.{Contact}
-use Rattle.tipc_broadcast.specs.Casting.{Casting, accepted, accepting, answered, credited, flushed, informed, leaving, left_with, next_start, room, settled, shown, with_contacts}
+use Rattle.tipc_broadcast.specs.Casting.{Casting, accepted, accepting, answered, credited, flushed, informed, leaving, left_with, moved_up, next_start, room, rounds_of_departure, settled, shown, with_contacts}
 use Rattle.tipc_broadcast.specs.Contacts.{acknowledging, carried, contact_with, is_with, joined, shown_in, shown_to, told, with_changed, without}
 use Rattle.tipc_broadcast.specs.Deeds.{CastDeed, after_deed, after_deeds, is_deed_with, is_hearing_of, sends_nothing}
 use Rattle.tipc_broadcast.proofs.Deeds.{LeavesBoot, accepting_alike, answered_alike, heard_keeps, left_alike, told_keeps}
@@ -89,13 +89,18 @@ accepted_flushed v =
     let within : room v.sending ≤ length v.sending.waiting = omega arith in
     omega (arith, length-drop (room v.sending) v.sending.waiting, within)
 
-accepted_settled : (v : Casting) → accepted (settled v).sending ≡ accepted v.sending
+pub accepted_settled : (v : Casting) → accepted (settled v).sending ≡ accepted v.sending
 unfolding settled
 accepted_settled v = refl
 
+accepted_moved : (n : ℕ) (v : Casting) → accepted (moved_up n v).sending ≡ accepted v.sending
+unfolding moved_up
+accepted_moved zero v = refl
+accepted_moved (suc n) v = accepted_flushed (settled (moved_up n v)) ∙ (accepted_settled (moved_up n v) ∙ accepted_moved n v)
+
 accepted_left : (cs : List Contact) (v : Casting) → accepted (left_with cs v).sending ≡ accepted v.sending
 accepted_left [] v = omega arith
-accepted_left (c ∷ cs) v = accepted_flushed (settled v) ∙ accepted_settled v
+accepted_left (c ∷ cs) v = accepted_moved rounds_of_departure v
 
 accepted_stated : (v : Casting) (peer : ℕ) (seen : BroadcastState) (b : Bool)
     → accepted (if b then answered (informed v peer seen.start seen.next) peer seen.acknowledged else informed v peer seen.start seen.next).sending ≡ accepted v.sending

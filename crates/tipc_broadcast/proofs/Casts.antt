@@ -1,7 +1,7 @@
 -- Waiting packets that move up one after another, and unacknowledged ones that are sent again.
-use Rattle.std.proofs.Common.{◌≡◌, ℕ, ◌+◌, ◌<◌, ◌≤◌, Bool, true, false, if◌then◌else◌, List, [], ◌∷◌, ◌++◌, Some, length, take, drop, filter, slice_get, refl, sym, ap, ◌∙◌, append_assoc, append-nil, length-drop, get_or, add-zero, subst, arith}
+use Rattle.std.proofs.Common.{◌≡◌, ℕ, suc, ◌+◌, ◌<◌, ◌≤◌, Bool, true, false, if◌then◌else◌, List, [], ◌∷◌, ◌++◌, Some, length, take, drop, filter, slice_get, refl, sym, ap, ◌∙◌, append_assoc, append-nil, length-drop, get_or, add-zero, subst, arith}
 use Rattle.std.proofs.lemmas.List.{drop-drop, get_or-drop, take_more, take_all, length-take-le}
-use Rattle.std.proofs.lemmas.List.Elements.{All-cons, All-head, All-nil, All-tail, filter-append}
+use Rattle.std.proofs.lemmas.List.Elements.{All-append, All-cons, All-head, All-nil, All-tail, filter-append}
 use Rattle.std.proofs.lemmas.Option.{slice_get-get_or}
 use Rattle.std.proofs.Math.Seq.{take-add}
 use Rattle.std.specs.Prelude.{All}
@@ -10,8 +10,8 @@ use Rattle.tipc_types.specs.declared.packet_lists.Kept.{Kept}
 use Rattle.tipc_outside.proofs.Adding.{adds_more, adds_none}
 use Rattle.tipc_outside.specs.Frames.{Adds, Out}
 use Rattle.tipc_send_window.specs.Sending.{kept_after, kept_of, Sending}
-use Rattle.tipc_broadcast.specs.Frames.{cast, cast_again, cast_all}
-use Rattle.tipc_broadcast.specs.Casting.{advanced, Casting, flush_frames, flushed, is_behind, repeat_frames, room, sent}
+use Rattle.tipc_broadcast.specs.Frames.{IsShort, cast, cast_again, cast_all}
+use Rattle.tipc_broadcast.specs.Casting.{advanced, Casting, flush_frames, flushed, is_behind, moved_up_frames, moved_up, repeat_frames, room, rounds_of_departure, sent, settled}
 
 advanced-none : (s : Sending) → advanced 0 s ≡ s
 advanced-none s = let u : s.unacked ++ [] ≡ s.unacked = append-nil s.unacked in let n : s.numbered + 0 ≡ s.numbered = omega arith in rw (u, n) refl
@@ -146,3 +146,34 @@ pub kept_long : (before : ℕ) (packets : List (List ℕ)) → All (λ packet. 3
 kept_long before [] h = All-nil (λ (k : Kept). 32 ≤ length k.packet)
 kept_long before (packet ∷ packets) h =
     All-cons (λ (k : Kept). 32 ≤ length k.packet) _ _ (All-head (λ packet. 32 ≤ length packet) packet packets h) (kept_long (before + 1) packets (All-tail (λ packet. 32 ≤ length packet) packet packets h))
+
+-- ---- what moves up when a peer leaves
+
+-- so many rounds of the departure were made
+pub record IsMovingUp (before : Casting) (box_before : Out) (now : Casting) (box : Out) (i : ℕ) : Type 0 where
+  pub state : now ≡ moved_up i before
+  pub frames : Adds box_before box (moved_up_frames i before)
+  pub short : All IsShort (moved_up_frames i before)
+  pub within : i ≤ rounds_of_departure
+
+pub moving-start : (before : Casting) (box : Out) → IsMovingUp before box before box 0
+unfolding moved_up moved_up_frames
+moving-start before box = record { state = refl; frames = adds_none box; short = All-nil IsShort; within = omega arith }
+
+-- one more was made
+pub moving-step : (before now between now' : Casting) (box_before box box' : Out) (i : ℕ) → IsMovingUp before box_before now box i → i < rounds_of_departure → between ≡ settled now → now' ≡ flushed between → Adds box box' (flush_frames between) → All IsShort (flush_frames between)
+    → IsMovingUp before box_before now' box' (i + 1)
+unfolding moved_up moved_up_frames
+moving-step before now between now' box_before box box' i h more released after frames short =
+    let is : between ≡ settled (moved_up i before) = released ∙ ap settled h.state in
+    let one : IsMovingUp before box_before now' box' (suc i) = record {
+      state = after ∙ ap flushed is;
+      frames = adds_more box_before box box' (moved_up_frames i before) (flush_frames (settled (moved_up i before))) h.frames (subst (λ v. Adds box box' (flush_frames v)) is frames);
+      short = All-append IsShort (moved_up_frames i before) (flush_frames (settled (moved_up i before))) h.short (subst (λ v. All IsShort (flush_frames v)) is short);
+      within = omega (arith, more);
+    } in
+    subst (λ k. IsMovingUp before box_before now' box' k) (omega arith) one
+
+-- all were made
+pub moving-done : (before now : Casting) (box_before box : Out) (i : ℕ) → IsMovingUp before box_before now box i → rounds_of_departure ≤ i → IsMovingUp before box_before now box rounds_of_departure
+moving-done before now box_before box i h all = let within = h.within in subst (λ k. IsMovingUp before box_before now box k) (omega (arith, within, all)) h

@@ -15,7 +15,7 @@ use Rattle.tipc_types.specs.declared.link_words.Why.{Why}
 use Rattle.tipc_recv_window.specs.Receiving.{Receiving, drained, filled, fresh, gap_of, gap_to, is_new, missing, past_wanted, run_of, with_packet}
 use Rattle.tipc_broadcast.specs.declared.contacts.Contact.{Contact}
 use Rattle.tipc_broadcast.specs.Contacts.{acknowledging, carried, heard, is_in_step, is_with, joined, noted_in, refusal, stepped, taken_in, told, with_changed, without}
-use Rattle.tipc_broadcast.specs.Casting.{Casting, accepting, answered, credited, flushed, informed, kept_for, leaving, left_with, next_start, settled, with_contacts, with_message}
+use Rattle.tipc_broadcast.specs.Casting.{Casting, accepting, answered, credited, flushed, informed, kept_for, leaving, left_with, moved_up, next_start, rounds_of_departure, settled, with_contacts, with_message}
 use Rattle.tipc_broadcast.specs.Deeds.{AreSmall, CastDeed, HasSmallWindow, after_deed, after_deeds, boot_by, boot_with, deed_frames, deeds_frames, is_contact_of, leaves_bearers}
 
 -- ---- one list behind another
@@ -53,9 +53,14 @@ alike_then u v w h k = record { own = k.own ∙ h.own; boot = k.boot ∙ h.boot;
 moved_alike : (v : Casting) → IsAlike v (flushed (settled v))
 moved_alike v = alike_then v (settled v) (flushed (settled v)) (settled_alike v) (flushed_alike (settled v))
 
+pub moved_up_alike : (n : ℕ) (v : Casting) → IsAlike v (moved_up n v)
+unfolding moved_up
+moved_up_alike zero v = record { own = refl; boot = refl; mended = refl; contacts = refl }
+moved_up_alike (suc n) v = alike_then v (moved_up n v) (moved_up (suc n) v) (moved_up_alike n v) (moved_alike (moved_up n v))
+
 pub left_alike : (contacts : List Contact) (v : Casting) → IsAlike v (left_with contacts v)
 left_alike [] v = record { own = refl; boot = refl; mended = refl; contacts = refl }
-left_alike (c ∷ contacts) v = moved_alike v
+left_alike (c ∷ contacts) v = moved_up_alike rounds_of_departure v
 
 kept_alike : (contacts : List Contact) (v : Casting) → IsAlike v (kept_for contacts v)
 kept_alike [] v = record { own = refl; boot = refl; mended = refl; contacts = refl }

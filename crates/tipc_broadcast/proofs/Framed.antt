@@ -1,6 +1,6 @@
 -- What stands in the lists of a broadcast link are frames of packets that the node can cast: so it is behind each lawful deed, and each frame
 -- that leaves brings a broadcast packet of the boot.
-use Rattle.std.proofs.Common.{◌≡◌, ◌<◌, ◌≤◌, ◌+◌, ◌-◌, ◌^◌, ℕ, Bool, true, false, if◌then◌else◌, List, [], ◌∷◌, take, drop, map, length, ap, ◌∙◌, refl, sym, subst, arith}
+use Rattle.std.proofs.Common.{◌≡◌, ◌<◌, ◌≤◌, ◌+◌, ◌-◌, ◌^◌, ℕ, Bool, true, false, if◌then◌else◌, List, [], ◌∷◌, take, drop, map, length, ap, ◌∙◌, refl, sym, subst, arith, zero, suc}
 use Rattle.std.specs.Prelude.{All, slice_index_or}
 use Rattle.std.proofs.lemmas.Bool.Decides.{nat_tests}
 use Rattle.std.proofs.lemmas.List.{drop_at}
@@ -21,7 +21,7 @@ use Rattle.tipc_header.proofs.FrameWords.{first_of-frame, length-envelope, stamp
 use Rattle.tipc_header.proofs.Again.{again}
 use Rattle.tipc_send_window.specs.Sending.{acked_of, kept_after, kept_of}
 use Rattle.tipc_broadcast.specs.declared.contacts.Contact.{Contact}
-use Rattle.tipc_broadcast.specs.Casting.{Casting, accepting, answered, answered_frames, credited, flush_frames, flushed, informed, is_behind, kept_for, left_frames, left_with, repeat_frames, room, settled, with_contacts, with_message}
+use Rattle.tipc_broadcast.specs.Casting.{Casting, accepting, answered, answered_frames, credited, flush_frames, flushed, informed, is_behind, kept_for, left_frames, left_with, moved_up_frames, moved_up, repeat_frames, room, rounds_of_departure, settled, with_contacts, with_message}
 use Rattle.tipc_broadcast.specs.Contacts.{acked_by_all, member_set, without}
 use Rattle.tipc_broadcast.specs.Deeds.{AreLawful, CanSend, CastDeed, IsLawful, after_deed, after_deeds, deed_frames, deeds_frames}
 use Rattle.tipc_broadcast.specs.Frames.{accepted_frame, cast, cast_again, cast_all, numbered_frame, on_bearer}
@@ -142,9 +142,29 @@ moved_framed v low h =
     let moved = flushed_framed (settled v) (subst (λ boot. boot < 2 ^ 32) (sym same) low) (settled_framed v h) in
     subst (λ boot. StaysFramed boot (flushed (settled v)) (flush_frames (settled v))) same moved
 
+flushed_boot : (v : Casting) → (flushed v).boot ≡ v.boot
+unfolding flushed
+flushed_boot v = refl
+
+moved_boot : (n : ℕ) (v : Casting) → (moved_up n v).boot ≡ v.boot
+unfolding moved_up
+moved_boot zero v = refl
+moved_boot (suc n) v = flushed_boot (settled (moved_up n v)) ∙ (settled_boot (moved_up n v) ∙ moved_boot n v)
+
+-- likewise, however often
+moved_up_framed : (n : ℕ) (v : Casting) → v.boot < 2 ^ 32 → AreFramed v → StaysFramed v.boot (moved_up n v) (moved_up_frames n v)
+unfolding moved_up moved_up_frames
+moved_up_framed zero v low h = record { after = h; frames = All-nil (IsOfBroadcast v.boot) }
+moved_up_framed (suc n) v low h =
+    let before = moved_up_framed n v low h in
+    let same = moved_boot n v in
+    let one : StaysFramed v.boot (moved_up (suc n) v) (flush_frames (settled (moved_up n v))) =
+    subst (λ boot. StaysFramed boot (moved_up (suc n) v) (flush_frames (settled (moved_up n v)))) same (moved_framed (moved_up n v) (subst (λ boot. boot < 2 ^ 32) (sym same) low) before.after) in
+    record { after = one.after; frames = All-append (IsOfBroadcast v.boot) (moved_up_frames n v) (flush_frames (settled (moved_up n v))) before.frames one.frames }
+
 left_framed : (contacts : List Contact) (v : Casting) → v.boot < 2 ^ 32 → AreFramed v → StaysFramed v.boot (left_with contacts v) (left_frames contacts v)
 left_framed [] v low h = record { after = record { unacked = All-nil (IsFramed v.own v.boot); waiting = All-nil (IsFramed v.own v.boot) }; frames = All-nil (IsOfBroadcast v.boot) }
-left_framed (c ∷ contacts) v low h = moved_framed v low h
+left_framed (c ∷ contacts) v low h = moved_up_framed rounds_of_departure v low h
 
 kept_for_framed : (contacts : List Contact) (v : Casting) → AreFramed v → AreFramed (kept_for contacts v)
 kept_for_framed [] v h = record { unacked = All-nil (IsFramed v.own v.boot); waiting = All-nil (IsFramed v.own v.boot) }

@@ -1,12 +1,12 @@
 -- What every broadcast link keeps, it keeps behind each lawful deed.
-use Rattle.std.proofs.Common.{◌≡◌, ◌≤◌, ◌+◌, ◌^◌, ℕ, Bool, true, false, if◌then◌else◌, List, [], ◌∷◌, length, take, map, refl, sym, subst, ◌∙◌, length-append, length-drop, arith}
+use Rattle.std.proofs.Common.{◌≡◌, ◌≤◌, ◌+◌, ◌^◌, ℕ, Bool, true, false, if◌then◌else◌, List, [], ◌∷◌, length, take, map, refl, sym, subst, ◌∙◌, length-append, length-drop, arith, zero, suc}
 use Rattle.std.specs.Prelude.{All}
 use Rattle.std.proofs.lemmas.List.{length-take-le}
 use Rattle.std.proofs.lemmas.List.Elements.{All-append, All-drop, All-nil, All-push, All-take}
 use Rattle.tipc_types.specs.declared.link_words.BroadcastState.{BroadcastState}
 use Rattle.tipc_send_window.specs.Sending.{IsSending, acked_of, passed_over}
 use Rattle.tipc_broadcast.specs.declared.contacts.Contact.{Contact}
-use Rattle.tipc_broadcast.specs.Casting.{Casting, IsCasting, accepted, accepting, advanced, answered, credited, flushed, informed, kept_for, left_with, next_start, room, settled, with_contacts, with_message}
+use Rattle.tipc_broadcast.specs.Casting.{Casting, IsCasting, accepted, accepting, advanced, answered, credited, flushed, informed, kept_for, left_with, moved_up, next_start, room, rounds_of_departure, settled, with_contacts, with_message}
 use Rattle.tipc_broadcast.specs.Contacts.{IsContact, acknowledging, carried, heard, joined, member_set, refusal, told, without}
 use Rattle.tipc_broadcast.specs.Deeds.{CanSend, CastDeed, IsLawful, after_deed, sends_nothing}
 use Rattle.tipc_broadcast.specs.Frames.{accepted_frame}
@@ -59,7 +59,7 @@ flushed_right v h =
       };
     }
 
-settled_right : (v : Casting) → IsLink v → IsLink (settled v)
+pub settled_right : (v : Casting) → IsLink v → IsLink (settled v)
 unfolding settled
 settled_right v h =
     let s = v.sending in
@@ -85,9 +85,14 @@ given_up v none h = record {
   };
 }
 
+pub moved_right : (n : ℕ) (v : Casting) → IsLink v → IsLink (moved_up n v)
+unfolding moved_up
+moved_right zero v h = h
+moved_right (suc n) v h = flushed_right (settled (moved_up n v)) (settled_right (moved_up n v) (moved_right n v h))
+
 left_right : (cs : List Contact) (v : Casting) → v.contacts ≡ cs → IsLink v → IsLink (left_with cs v)
 left_right [] v none h = given_up v none h
-left_right (c ∷ cs) v some h = flushed_right (settled v) (settled_right v h)
+left_right (c ∷ cs) v some h = moved_right rounds_of_departure v h
 
 kept_right : (cs : List Contact) (v : Casting) → v.contacts ≡ cs → IsLink v → IsLink (kept_for cs v)
 kept_right [] v none h = given_up v none h

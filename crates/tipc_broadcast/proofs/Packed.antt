@@ -1,12 +1,12 @@
 -- Where packets wait on a broadcast link, as many are unacknowledged as may: so it is behind whatever happens there.
-use Rattle.std.proofs.Common.{◌≡◌, ◌≤◌, ◌<◌, ◌+◌, ◌-◌, ℕ, Bool, true, false, List, [], ◌∷◌, ◌++◌, inl, inr, refl, length, take, arith, length-append}
+use Rattle.std.proofs.Common.{◌≡◌, ◌≤◌, ◌<◌, ◌+◌, ◌-◌, ℕ, Bool, true, false, List, [], ◌∷◌, ◌++◌, inl, inr, refl, length, take, arith, length-append, zero, suc}
 use Rattle.std.specs.Prelude.{◌⊎◌, min, if◌then◌else◌}
 use Rattle.std.proofs.lemmas.Bool.{cases_lt}
 use Rattle.std.proofs.lemmas.List.{length-drop, length-take, drop_all}
 use Rattle.tipc_types.specs.declared.link_words.BroadcastState.{BroadcastState}
 use Rattle.tipc_send_window.specs.Sending.{Sending, acked_of, passed_over}
 use Rattle.tipc_broadcast.specs.declared.contacts.Contact.{Contact}
-use Rattle.tipc_broadcast.specs.Casting.{Casting, IsPackedCast, advanced, answered, credited, flushed, informed, kept_for, left_with, room, settled, stating, with_contacts, with_message, with_sending}
+use Rattle.tipc_broadcast.specs.Casting.{Casting, IsPackedCast, advanced, answered, credited, flushed, informed, kept_for, left_with, moved_up, room, settled, stating, with_contacts, with_message, with_sending}
 use Rattle.tipc_broadcast.specs.Contacts.{acked_by_all, without}
 use Rattle.tipc_broadcast.specs.Deeds.{CastDeed, after_deed, after_deeds}
 
@@ -43,9 +43,19 @@ none_packed v = (omega arith, inl refl)
 
 -- ---- whatever happens
 
+-- however often packets are released and move up
+moved_few : (n : ℕ) (v : Casting) → length v.sending.unacked ≤ 50 → length (moved_up n v).sending.unacked ≤ 50
+unfolding moved_up
+moved_few zero v within = within
+moved_few (suc n) v within = (flushed_packed (settled (moved_up n v)) (settled_few (moved_up n v) (moved_few n v within))).0
+
+moved_packed : (n : ℕ) (v : Casting) → length v.sending.unacked ≤ 50 → IsPackedCast (moved_up (suc n) v).sending
+unfolding moved_up
+moved_packed n v within = flushed_packed (settled (moved_up n v)) (settled_few (moved_up n v) (moved_few n v within))
+
 left_packed : (peers : List Contact) (v : Casting) → length v.sending.unacked ≤ 50 → IsPackedCast (left_with peers v).sending
 left_packed [] v within = none_packed v
-left_packed (c ∷ peers) v within = flushed_packed (settled v) (settled_few v within)
+left_packed (c ∷ peers) v within = moved_packed 5 v within
 
 kept_packed : (peers : List Contact) (v : Casting) → IsPackedCast v.sending → IsPackedCast (kept_for peers v).sending
 kept_packed [] v h = none_packed v

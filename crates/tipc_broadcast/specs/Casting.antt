@@ -1,5 +1,5 @@
 -- The broadcast link of a node in one boot, and what each call makes of it.
-use Rattle.std.specs.Prelude.{◌≡◌, ◌⊎◌, ℕ, ◌+◌, ◌-◌, ◌≤◌, ◌&&◌, Bool, false, List, [], ◌∷◌, ◌++◌, All, length, take, drop, filter, map, min, nat_le, nat_lt, replicate, slice_set, Option, Some, None, if◌then◌else◌}
+use Rattle.std.specs.Prelude.{◌≡◌, ◌⊎◌, ℕ, zero, suc, ◌+◌, ◌-◌, ◌≤◌, ◌&&◌, Bool, false, List, [], ◌∷◌, ◌++◌, All, length, take, drop, filter, map, min, nat_le, nat_lt, replicate, slice_set, Option, Some, None, if◌then◌else◌}
 use Rattle.tipc_types.specs.Address.{IsNodeWord}
 use Rattle.tipc_types.specs.Position.{distance_of, number_of}
 use Rattle.tipc_types.specs.declared.link_words.BroadcastState.{BroadcastState}
@@ -105,16 +105,31 @@ with_contacts v contacts = record v { contacts = contacts }
 abbrev pub joining : Casting → ℕ → ℕ → Casting
 joining v peer boot = with_contacts v (v.contacts ++ joined peer boot (next_start v) ∷ [])
 
+-- what all peers in contact acknowledged is released and packets move up, so many times: one that none of them is to have is released as soon
+-- as it has moved up, and then more have room
+unfoldable pub moved_up : ℕ → Casting → Casting
+moved_up zero v = v
+moved_up (suc n) v = flushed (settled (moved_up n v))
+
+-- the frames that leave then
+unfoldable pub moved_up_frames : ℕ → Casting → List Outgoing
+moved_up_frames zero v = []
+moved_up_frames (suc n) v = moved_up_frames n v ++ flush_frames (settled (moved_up n v))
+
+-- How often that is when a peer leaves: at most 246 packets wait, of which 50 move up at once, and those that moved up last are released.
+abbrev pub rounds_of_departure : ℕ
+rounds_of_departure = 6
+
 -- what is left when a peer has left: with nobody in contact everything is given up, else what waited for that peer
 -- alone is released and packets move up
 abbrev pub left_with : List Contact → Casting → Casting
 left_with [] v = with_sending v (passed_over v.sending)
-left_with (c ∷ contacts) v = flushed (settled v)
+left_with (c ∷ contacts) v = moved_up rounds_of_departure v
 
 -- the frames that leave when a peer has left; `contacts` are those that are left
 abbrev pub left_frames : List Contact → Casting → List Outgoing
 left_frames [] v = []
-left_frames (c ∷ contacts) v = flush_frames (settled v)
+left_frames (c ∷ contacts) v = moved_up_frames rounds_of_departure v
 
 -- after a peer has left
 abbrev pub leaving : Casting → ℕ → Casting

@@ -23,6 +23,10 @@ use tipc_types::{
     Addr, BroadcastState, Kept, NoMemory, Pieces, To, Why, number_distance, sequence_number,
 };
 
+/// How often packets are released and move up when a peer leaves: at most 246 wait, of which 50 move up at once, and those that moved up last are
+/// released.
+const ROUNDS_OF_DEPARTURE: u32 = 6;
+
 /// The broadcast link of a node in one boot: one stream of packets to all peers in contact, and what the node takes
 /// of the streams of these peers.
 ///
@@ -58,7 +62,7 @@ impl Model for Broadcast {
 impl Broadcast {
     ghost use Rattle.tipc_types.specs.Limits.{most_packet_bytes, window_size};
     ghost use Rattle.tipc_broadcast.specs.Frames.{cast, IsShort, numbered_frame, on_bearer};
-    ghost use Rattle.tipc_broadcast.specs.Casting.{accepting, accepting_frames, answered, answered_frames, arriving, arriving_outcome, booted, coming_at, coming_of, credited, flush_frames, flushed, hearing, informed, IsCasting, joining, kept_for, left_frames, left_with, leaving, leaving_frames, next_start, refusal_of, repeat_frames, room, sent, settled, shown, stating, stating_frames, TakesFew, with_bearer, with_contacts, with_message, with_sending};
+    ghost use Rattle.tipc_broadcast.specs.Casting.{accepting, accepting_frames, answered, answered_frames, arriving, arriving_outcome, booted, coming_at, coming_of, credited, flush_frames, flushed, hearing, informed, IsCasting, joining, kept_for, left_frames, left_with, leaving, leaving_frames, moved_up_frames, moved_up, next_start, refusal_of, repeat_frames, room, rounds_of_departure, sent, settled, shown, stating, stating_frames, TakesFew, with_bearer, with_contacts, with_message, with_sending};
     ghost use Rattle.tipc_broadcast.specs.Contacts.{contact_with, deferred_of, has_joined, IsFree, shows_more_to, without};
 
     /// The broadcast link of a node that has just booted: both bearers are cut, and nobody is in contact.
@@ -359,6 +363,19 @@ impl Broadcast {
             .retain(|contact| contact.peer.word != peer.word);
     }
 
+    /// Releases every packet that all peers in contact acknowledged, and sends what then has room, until nothing that waits is for nobody:
+    /// what nobody is to have is released as soon as it was sent.
+    fn move_up(&mut self, alloc: Global, out: &mut Outbox)
+        ensures after { self.new ≡ moved_up rounds_of_departure self.old }
+        ensures frames { Adds out.old out.new (moved_up_frames rounds_of_departure self.old) }
+        ensures short { All IsShort (moved_up_frames rounds_of_departure self.old) }
+    {
+        for _ in 0..ROUNDS_OF_DEPARTURE {
+            self.release();
+            self.flush(alloc, out);
+        }
+    }
+
     /// What a departure leaves: with nobody in contact everything is given up, else packets are released and move up.
     #[tactic(auto, using(tipc_outside::proofs::Adding::gains_none))]
     fn follow_departure(&mut self, alloc: Global, out: &mut Outbox)
@@ -370,8 +387,7 @@ impl Broadcast {
             self.give_up();
             return;
         }
-        self.release();
-        self.flush(alloc, out);
+        self.move_up(alloc, out);
     }
 
     /// The contact with a peer ends. Nothing is kept for it any more: packets that only it had yet to acknowledge are

@@ -16,9 +16,12 @@ use Rattle.tipc_send_window.specs.Sending.{acked_of, IsSending, kept_after, kept
 use Rattle.tipc_broadcast.specs.declared.contacts.Contact.{Contact}
 use Rattle.tipc_broadcast.specs.Contacts.{contact_with, is_member, IsContact, member_set, without}
 use Rattle.tipc_broadcast.specs.Frames.{accepted_frame, cast, cast_again, cast_all, numbered_frame, on_bearer}
-use Rattle.tipc_broadcast.specs.Casting.{accepted, accepting, accepting_frames, advanced, answered, answered_frames, Casting, credited, flush_frames, flushed, informed, is_behind, IsCasting, joining, kept_for, leaving, leaving_frames, left_frames, left_with, repeat_frames, room, settled, stating, stating_frames, with_contacts, with_message, with_sending}
+use Rattle.tipc_broadcast.specs.Casting.{accepted, accepting, accepting_frames, advanced, answered, answered_frames, Casting, credited, flush_frames, flushed, informed, is_behind, IsCasting, joining, kept_for, leaving, leaving_frames, left_frames, left_with, moved_up_frames, moved_up, repeat_frames, room, rounds_of_departure, settled, stating, stating_frames, with_contacts, with_message, with_sending}
+use Rattle.tipc_broadcast.proofs.Apart.{accepted_flushed, accepted_settled}
+use Rattle.tipc_broadcast.proofs.Deeds.{moved_up_alike}
 use Rattle.tipc_broadcast.proofs.FrameLaws.{frames_are_stamped}
 use Rattle.tipc_broadcast.proofs.Keeping.{acked_by_all-below, leave-keeps, offer-keeps, release-keeps, to_release}
+use Rattle.tipc_broadcast.proofs.Lawful.{IsLink, moved_right, settled_right}
 use Rattle.tipc_broadcast.proofs.SetLaws.{sets_have_32_bits, sets_tell_members}
 use Rattle.tipc_broadcast_law.specs.Groups.{Accepted, Caster, Group, Member}
 use Rattle.tipc_broadcast_law.specs.Events.{accepting_entry as accepting_one}
@@ -220,9 +223,62 @@ nothing_left line v = record { unacked = tt; waiting = tt }
 pub join_lines : (line : List Accepted) (v : Casting) (peer boot : ℕ) → IsLined line v → IsLined line (joining v peer boot)
 join_lines line v peer boot h = record { unacked = h.unacked; waiting = h.waiting }
 
+-- ---- packets that are released and move up, one round after another
+
+-- The lists stand so, and these frames left, also where more have their numbers by then.
+record MovesLines (own : ℕ) (line : List Accepted) (v : Casting) (frames : List Outgoing) : Type 0 where
+  lined : IsLined line v
+  sent : (a : Caster) (n : ℕ) → v.sending.numbered ≤ n → IsOfBoot a v.boot line n → All (IsCastFrame a own (accepted v.sending)) frames
+
+settled_same : (v : Casting) → ((settled v).own ≡ v.own) × ((settled v).boot ≡ v.boot) × ((settled v).sending.numbered ≡ v.sending.numbered)
+unfolding settled
+settled_same v = (refl, refl, refl)
+
+flushed_same : (v : Casting) → ((flushed v).boot ≡ v.boot) × ((flushed v).sending.numbered ≡ v.sending.numbered + room v.sending)
+unfolding flushed
+flushed_same v = (refl, refl)
+
+flush_later : (line : List Accepted) (v : Casting) (n : ℕ) (a : Caster) → IsCasting v.own v.sending v.contacts → IsLined line v → v.sending.numbered + room v.sending ≤ n → IsOfBoot a v.boot line n → All (IsCastFrame a v.own (accepted v.sending)) (flush_frames v)
+unfolding flush_frames
+flush_later line v n a is h end at =
+    let s = v.sending in
+    let few = is.few in
+    let short : room s ≤ length s.waiting = room_within s in
+    let long : length (take (room s) s.waiting) ≡ room s = length-take-le (room s) s.waiting short in
+    casts_all a v.own v.boot line n (accepted s) s.numbered v.mended (take (room s) s.waiting) at (take_frames v.own v.boot line (room s) s.numbered s.waiting h.waiting) (omega (arith, long, end)) (omega (arith, few))
+
+-- one round more
+moved_on : (own : ℕ) (line : List Accepted) (u : Casting) (frames : List Outgoing) → u.own ≡ own → IsLink u → MovesLines own line u frames → MovesLines own line (flushed (settled u)) (frames ++ flush_frames (settled u))
+moved_on own line u frames same right h =
+    let w = flushed (settled u) in
+    let lined = settled_lines line u right.window right.casting h.lined in
+    let alike = settled_same u in
+    let more = flushed_same (settled u) in
+    let whole : accepted w.sending ≡ accepted (settled u).sending = accepted_flushed (settled u) in
+    let kept : accepted (settled u).sending ≡ accepted u.sending = accepted_settled u in
+    let numbered : (settled u).sending.numbered ≡ u.sending.numbered = alike.2 in
+    let end : w.sending.numbered ≡ (settled u).sending.numbered + room (settled u).sending = more.1 in
+    record {
+      lined = lined.lined;
+      sent = λ a n up at.
+          let between : IsOfBoot a (settled u).boot line n = subst (λ boot. IsOfBoot a boot line n) more.0 at in
+          let first = h.sent a n (omega (arith, numbered, end, up)) (subst (λ boot. IsOfBoot a boot line n) alike.1 between) in
+          let last = flush_later line (settled u) n a (settled_right u right).casting (settle_lines line u right.window right.casting h.lined) (omega (arith, end, up)) between in
+          All-append (IsCastFrame a own (accepted w.sending)) frames (flush_frames (settled u))
+          (subst (λ k. All (IsCastFrame a own k) frames) (sym (whole ∙ kept)) first)
+          (subst (λ k. All (IsCastFrame a own k) (flush_frames (settled u))) (sym whole) (subst (λ o. All (IsCastFrame a o (accepted (settled u).sending)) (flush_frames (settled u))) (alike.0 ∙ same) last));
+    }
+
+moved_lines : (n : ℕ) (line : List Accepted) (v : Casting) → IsLink v → IsLined line v → MovesLines v.own line (moved_up n v) (moved_up_frames n v)
+unfolding moved_up moved_up_frames
+moved_lines zero line v right h = record { lined = h; sent = λ a n up at. All-nil (IsCastFrame a v.own (accepted v.sending)) }
+moved_lines (suc n) line v right h = moved_on v.own line (moved_up n v) (moved_up_frames n v) (moved_up_alike n v).own (moved_right n v right) (moved_lines n line v right h)
+
 left_lines : (line : List Accepted) (v : Casting) (cs : List Contact) → IsSending v.sending → IsCasting v.own v.sending v.contacts → IsLined line v → KeepsLines v.own line (left_with cs v) (left_frames cs v)
 left_lines line v [] window is h = record { lined = nothing_left line v; sent = λ a boot line_is count. All-nil (IsCastFrame a v.own (accepted (passed_over v.sending))) }
-left_lines line v (c ∷ cs) window is h = settled_lines line v window is h
+left_lines line v (c ∷ cs) window is h =
+    let moved = moved_lines rounds_of_departure line v (record { window = window; casting = is }) h in
+    record { lined = moved.lined; sent = λ a boot line_is count. moved.sent a (moved_up rounds_of_departure v).sending.numbered (omega arith) (record { boot_is = boot; line_is = line_is; count = count }) }
 
 pub leave_lines : (line : List Accepted) (v : Casting) (peer : ℕ) → IsSending v.sending → IsCasting v.own v.sending v.contacts → IsLined line v → KeepsLines v.own line (leaving v peer) (leaving_frames v peer)
 leave_lines line v peer window is h =

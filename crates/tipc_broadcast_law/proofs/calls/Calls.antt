@@ -1,5 +1,5 @@
 -- The calls of the caster are runs of the law.
-use Rattle.std.proofs.Common.{◌≡◌, ℕ, ◌+◌, ◌-◌, ◌<◌, ◌≤◌, ◌==◌, true, false, not, cond, List, [], ◌∷◌, ◌++◌, length, map, Option, Some, None, refl, sym, ap, ◌∙◌, subst, append_assoc, append-nil, length-append, length-drop, inl, inr, eqb-true, arith}
+use Rattle.std.proofs.Common.{◌≡◌, ℕ, zero, suc, ◌+◌, ◌-◌, ◌<◌, ◌≤◌, ◌==◌, true, false, not, cond, List, [], ◌∷◌, ◌++◌, length, map, Option, Some, None, refl, sym, ap, ◌∙◌, subst, append_assoc, append-nil, length-append, length-drop, inl, inr, eqb-true, arith}
 use Rattle.std.specs.Prelude.{All}
 use Rattle.std.specs.List.{find}
 use Rattle.std.specs.Option.{option_or}
@@ -10,8 +10,9 @@ use Rattle.tipc_send_window.specs.Sending.{IsSending, passed_over, released, Sen
 use Rattle.tipc_broadcast.specs.declared.contacts.Contact.{Contact}
 use Rattle.tipc_broadcast.specs.Contacts.{contact_with, is_with, joined, member_set, without}
 use Rattle.tipc_broadcast.specs.Frames.{accepted_frame}
-use Rattle.tipc_broadcast.specs.Casting.{accepting, Casting, flushed, IsCasting, joining, kept_for, leaving, left_with, next_start, settled, with_contacts, with_message, with_sending}
+use Rattle.tipc_broadcast.specs.Casting.{accepting, Casting, flushed, IsCasting, joining, kept_for, leaving, left_with, moved_up, next_start, rounds_of_departure, settled, with_contacts, with_message, with_sending}
 use Rattle.tipc_broadcast.proofs.Keeping.{leave-keeps, offer-keeps, release-keeps, to_release}
+use Rattle.tipc_broadcast.proofs.Lawful.{moved_right}
 use Rattle.tipc_broadcast_law.specs.Groups.{Accepted, Caster, Group, length_now, Member, numbered_now, put, queue}
 use Rattle.tipc_broadcast_law.specs.Events.{accepting_entry as accepting_one, accepts, caster_begins, caster_ends, changes, empties, go_on, joined_in, line_with, none, numbered_to, Runs, without_contact}
 use Rattle.tipc_broadcast_law.proofs.Places.{put_other, put_same, same_or_not}
@@ -140,9 +141,19 @@ unfolding settled
 settled_flush g v h window is =
     flush_runs g (with_sending v (released v.sending (to_release v.sending v.contacts))) (record { numbered = h.numbered; accepted_all = h.accepted_all; members = h.members }) (released-sending v.sending (to_release v.sending v.contacts) window) (release-keeps v.own v.sending v.contacts window is)
 
+-- however often packets are released and move up
+moved_runs : (n : ℕ) (g : Group) (v : Casting) → Casts g v → IsSending v.sending → IsCasting v.own v.sending v.contacts → Leads g (line_of g) g.members (moved_up n v)
+unfolding moved_up
+moved_runs zero g v h window is = record { after = g; runs = none; stands = h; becomes = with_members g g.members }
+moved_runs (suc n) g v h window is =
+    let before = moved_runs n g v h window is in
+    let right = moved_right n v (record { window = window; casting = is }) in
+    let one = settled_flush before.after (moved_up n v) before.stands right.window right.casting in
+    record { after = one.after; runs = follow before.runs one.runs; stands = one.stands; becomes = stays before.becomes one.becomes }
+
 follow_departure : (g : Group) (v : Casting) (cs : List Contact) → cs ≡ v.contacts → Casts g v → IsSending v.sending → IsCasting v.own v.sending v.contacts → Leads g (line_of g) g.members (left_with cs v)
 follow_departure g v [] same h window is = given_up g v h (sym same)
-follow_departure g v (c ∷ cs) same h window is = settled_flush g v h window is
+follow_departure g v (c ∷ cs) same h window is = moved_runs rounds_of_departure g v h window is
 
 pub leave_runs : (g : Group) (v : Casting) (peer : ℕ) → Casts g v → IsSending v.sending → IsCasting v.own v.sending v.contacts
     → Leads g (line_of g) (put peer (without_contact (g.members peer)) g.members) (leaving v peer)
