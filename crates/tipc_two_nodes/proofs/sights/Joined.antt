@@ -1,5 +1,5 @@
 -- The sessions of two link ends that are up with each other are joined.
-use Rattle.std.proofs.Common.{◌≡◌, ◌≤◌, ◌+◌, ℕ, List, Some, length, sym, ap, ◌∙◌, subst, arith}
+use Rattle.std.proofs.Common.{◌≡◌, ◌≤◌, ◌+◌, ℕ, Some, length, sym, ap, ◌∙◌, subst, arith}
 use Rattle.tipc_link.specs.Direction.{IsDirection, IsReceiver}
 use Rattle.tipc_link.specs.Links.{LinkEnd}
 use Rattle.tipc_link.specs.Sessions.{SessionEnd}
@@ -9,8 +9,7 @@ use Rattle.tipc_paired.proofs.wires.Wires.{same_some, session_of_up}
 use Rattle.tipc_paired.specs.Deeds.{IsUp}
 use Rattle.tipc_paired.specs.Paired.{ArePaired}
 use Rattle.tipc_paired.specs.Views.{View}
-use Rattle.tipc_two_nodes.specs.Joined.{SendBothWays, StandTogether, StandingAreJoined}
-use Rattle.tipc_two_nodes.specs.Sights.{AreSeen, Sight}
+use Rattle.tipc_two_nodes.specs.Joined.{StandingAreJoined}
 
 -- the epochs of a session are those of its link end
 epochs_of : (x y : View) (b : ℕ) (e : LinkEnd) (s : SessionEnd) → ArePaired x y → IsUp (x.wires b) e s → (s.epoch ≡ e.fsm.own) × (e.fsm.peer ≡ Some s.peer_epoch)

@@ -1,19 +1,18 @@
 -- Two nodes know nothing of each other above what the other has; and a contact number and an epoch of it tell of each other.
-use Rattle.std.proofs.Common.{◌≡◌, ◌<◌, ◌≤◌, ◌||◌, ℕ, false, Option, Some, None, refl, sym, ap, ◌∙◌, subst, inl, inr, arith}
+use Rattle.std.proofs.Common.{◌≡◌, ◌<◌, ◌≤◌, ℕ, false, Option, Some, None, refl, sym, ap, ◌∙◌, subst, inl, inr, arith}
 use Rattle.std.specs.Prelude.{slice_get}
-use Rattle.tipc_contact.specs.Sides.{IsNoticed}
 use Rattle.tipc_link.specs.Links.{LinkEnd}
-use Rattle.tipc_link_fsm.specs.Table.{Fsm, is_last}
+use Rattle.tipc_link_fsm.specs.Table.{is_last}
 use Rattle.tipc_pair.specs.Facing.{in_contact, is_up_at}
 use Rattle.tipc_paired.proofs.contacts.Mutual.{told_past, told_under}
 use Rattle.tipc_paired.proofs.PairedLaw.{turned as turned_pair}
 use Rattle.tipc_paired.proofs.wires.Wires.{epoch_of_end, epoch_of_none, map_at}
 use Rattle.tipc_paired.specs.Paired.{ArePaired, IsUnder, IsHeardEpoch}
-use Rattle.tipc_paired.specs.Views.{Frame, IsApart, Node, View, Wire, epoch_in, epoch_on, es_of, fsm_in, notice_of}
+use Rattle.tipc_paired.specs.Views.{Frame, IsApart, Node, View, epoch_in, es_of, fsm_in, notice_of}
 use Rattle.tipc_two_nodes.specs.Carriages.{Numbers}
-use Rattle.tipc_two_nodes.specs.Known.{ContactTellsPresent, KnowsNoHigher, NothingHigherIsKnown, PresentTellsContact}
+use Rattle.tipc_two_nodes.specs.Known.{ContactTellsPresent, NothingHigherIsKnown, PresentTellsContact}
 use Rattle.tipc_two_nodes.specs.Numbers.{AreNumbers}
-use Rattle.tipc_two_nodes.specs.Sights.{AreSeen, Sight, pair_seen}
+use Rattle.tipc_two_nodes.specs.Sights.{AreSeen, Sight}
 use Rattle.tipc_two_nodes.proofs.calls.PairViews.{or_false}
 use Rattle.tipc_two_nodes.proofs.deeds.Pairs.{apart_of}
 use Rattle.tipc_two_nodes.proofs.sights.Ordered.{seen_no_higher}
