@@ -12,3 +12,4 @@ pub mod Hearing
 pub mod Numbered
 pub mod Recorded
 pub mod Fronts
+pub mod AllTaken

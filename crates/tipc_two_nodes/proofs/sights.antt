@@ -20,5 +20,6 @@ pub mod Reaching
 pub mod Ordered
 pub mod Known
 pub mod Joined
+pub mod Quiet
 pub mod HeardIn
 pub mod Meeting

@@ -10,6 +10,7 @@ pub mod Numbers
 pub mod Order
 pub mod PieceLaws
 pub mod Pieces
+pub mod Quiet
 pub mod Reaching
 pub mod Sights
 pub mod Steps

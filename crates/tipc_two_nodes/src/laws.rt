@@ -3,6 +3,7 @@
 ghost use Rattle.tipc_two_nodes.specs.Joined.{StandingAreJoined};
 ghost use Rattle.tipc_two_nodes.specs.Known.{ContactTellsPresent, NothingHigherIsKnown, PresentTellsContact};
 ghost use Rattle.tipc_two_nodes.specs.Order.{BothInOne, EnteredNotYounger, EnteredPast, EnteredRise, EntersMet, HeardInContact, NoneMet, SeenNoHigher, SessionInContact, StepsMet, TurnedMet};
+ghost use Rattle.tipc_two_nodes.specs.Quiet.{QuietIsGiven};
 ghost use Rattle.tipc_two_nodes.specs.Reaching.{ReachedAreFronts, ReachedAreSeen};
 ghost use Rattle.tipc_two_nodes.specs.Sights.{EndsSeen, FramesSeen, FrontsSeen, GivesSeen, RestartsSeen, StartsSeen, TurnedSeen, TurnsSeen};
 ghost use Rattle.tipc_two_nodes.specs.Truth.{FramesFit, TruthsSeen};
@@ -61,4 +62,9 @@ pub fn what_nodes_know()
 /// lacks, and was shown no more than the next position. So what tipc_repair says of a packet that was lost is true of them, both ways.
 pub fn links_that_stand_are_joined()
     ensures { StandingAreJoined }
+{}
+
+/// Where no packet is unacknowledged or waits at either link of a node to another one, all messages that it put in its contact were given, in order.
+pub fn quiet_links_gave_everything()
+    ensures { QuietIsGiven }
 {}
