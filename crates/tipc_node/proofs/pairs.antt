@@ -4,3 +4,6 @@ pub mod Calm
 pub mod EndsStay
 pub mod Packed
 pub mod Strangers
+pub mod Sound
+pub mod Low
+pub mod RightEnds

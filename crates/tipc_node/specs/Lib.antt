@@ -4,6 +4,7 @@ pub mod CastArrivals
 pub mod CastHearings
 pub mod Casting
 pub mod Drafts
+pub mod Ends
 pub mod Discovery
 pub mod Hearings
 pub mod Messages

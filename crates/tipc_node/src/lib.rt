@@ -1,6 +1,6 @@
 //! One node: its neighbours, its sockets and its journal. Each call is one step of the journal.
 //!
-//! - The node: `nodes` (what it is, and what it promises), `cores` (its parts, ticks and bearers).
+//! - The node: `nodes` (what it is, and what it promises), `cores` (its parts, ticks and bearers), `laws` (what each of its turns keeps).
 //! - Calls: `calls` (on sockets, names and subscriptions), `sends` (those that send a message to one port), `multicasts` (the one that
 //!   sends to many).
 //! - Names: `tellings` (what peers are told), `items` (what a peer tells).
@@ -27,6 +27,7 @@ mod drafts;
 mod fates;
 mod frames;
 mod items;
+mod laws;
 mod messages;
 mod multicasts;
 mod neighbours;
@@ -37,6 +38,7 @@ mod steps;
 mod sure;
 mod tellings;
 
+pub use laws::link_ends_stay_right;
 pub use neighbours::Neighbour;
 pub use nodes::Node;
 pub use steps::NodeFault;
