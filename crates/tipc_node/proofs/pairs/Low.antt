@@ -233,8 +233,8 @@ act_most _ _ _ (raised x number) m h =
     tested (λ (c : Course). IsAtMost (m + length c.changes) c.pair) (in_contact x) (contact_ends (record x { seen = number }) (x.contact, x.seen) number) (nothing (forgotten x number))
     (λ _. ends_most (record x { seen = number }) (x.contact, x.seen) number m (record { contact = h.contact; near = h.near; far = h.far }))
     (λ none.
-        let both = neither (is_up_at x.near) (is_up_at x.far) none in
-        stays_most m (nothing (forgotten x number)) (record { contact = h.contact; near = forgets_most m number x.near both.0 h.near; far = forgets_most m number x.far both.1 h.far }))
+    let both = neither (is_up_at x.near) (is_up_at x.far) none in
+    stays_most m (nothing (forgotten x number)) (record { contact = h.contact; near = forgets_most m number x.near both.0 h.near; far = forgets_most m number x.far both.1 h.far }))
 act_most _ _ _ (let_go_of x e near clear) m h =
     let low = near_most m x e near h in
     let same = released_own e.fsm in
