@@ -1,5 +1,5 @@
 -- What it is to settle a world: rounds in which every node ticks and frames arrive.
-use Rattle.std.specs.Prelude.{◌≡◌, ◌≢◌, ◌⊎◌, ℕ, ◌+◌, ◌*◌, ◌/◌, ◌%◌, ◌<◌, ◌==◌, Bool, true, ◌&&◌, ◌||◌, if◌then◌else◌, Option, Some, None, is_some, slice_get, Ok, Err}
+use Rattle.std.specs.Prelude.{◌≡◌, ◌⊎◌, ℕ, ◌+◌, ◌*◌, ◌/◌, ◌%◌, ◌<◌, ◌==◌, Bool, true, false, ◌&&◌, ◌||◌, if◌then◌else◌, Option, Some, None, is_some, slice_get, Ok, Err}
 use Rattle.tipc_types.specs.Address.{node_word}
 use Rattle.tipc_types.specs.declared.identity.To.TheVariants as to
 use Rattle.tipc_types.specs.declared.node_calls.EventNote.TheVariants as call
@@ -88,11 +88,11 @@ abbrev pub MakesRounds : ℕ → Course (Unit {0})
 MakesRounds rounds start (Ok done) now = (places : Places) × Rounds start rounds places now
 MakesRounds rounds start (Err stop) now = RoundHalts rounds start stop now
 
--- So many rounds are made, and it is told whether packets are under way then. Where all of them were made, and a frame was lost that wasn't
--- lost before, want of memory is told.
+-- So many rounds are made, and it is told whether packets are under way then. Where all of them were made, and a frame was lost in one of them or
+-- before, want of memory is told.
 abbrev pub Settles : ℕ → Course Settled
-Settles rounds start (Ok settled) now = MakesRounds rounds start (Ok tt) now × (now.lost ≡ start.lost)
+Settles rounds start (Ok settled) now = MakesRounds rounds start (Ok tt) now × (now.lost ≡ false)
     × (settled ≡ settled_by (world_load now.members))
 Settles rounds start (Err stop) now =
     MakesRounds rounds start (Err stop) now
-    ⊎ (MakesRounds rounds start (Ok tt) now × (now.lost ≢ start.lost) × (stop ≡ fault.NoMemory))
+    ⊎ (MakesRounds rounds start (Ok tt) now × (now.lost ≡ true) × (stop ≡ fault.NoMemory))

@@ -329,7 +329,7 @@ impl<P: Pick> World<P> {
     /// # Errors
     ///
     /// The first fault of an event, as [`World::step`] answers it: the events before it happened. NoMemory too where all rounds were made and
-    /// a frame was lost in one of them, and none was before.
+    /// a frame was lost, in one of them or before.
     pub fn settle(&mut self, alloc: Global, rounds: u32) -> Result<Settled, WorldFault>
         ensures comes { Settles rounds self.old.state result self.new.state }
         ensures continues { Continues P.gives self.old self.new }
@@ -345,9 +345,8 @@ impl<P: Pick> World<P> {
         ensures comes { Settles rounds self.old.state result self.new.state }
         ensures continues { Continues P.gives self.old self.new }
     {
-        let lost_before = self.lost();
         make_rounds(alloc, rounds, self)?;
-        if self.lost() != lost_before {
+        if self.lost() {
             return Err(WorldFault::NoMemory);
         }
         Ok(settled_by(self))
