@@ -7,3 +7,4 @@ pub mod Strangers
 pub mod Sound
 pub mod Low
 pub mod RightEnds
+pub mod Mended

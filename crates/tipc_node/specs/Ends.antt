@@ -1,5 +1,6 @@
 -- What holds of the link ends of a node, whatever it does and whatever arrives: how long each was silent, and how high its numbers are.
-use Rattle.std.specs.Prelude.{◌≡◌, ◌≤◌, ℕ, ◌+◌, Some, IfSome, length}
+use Rattle.std.specs.Prelude.{◌≡◌, ◌≤◌, ℕ, ◌+◌, Bool, true, Some, IfSome, length}
+use Rattle.tipc_types.specs.LinkStates.{is_up}
 use Rattle.tipc_contact.specs.Sides.{first_number}
 use Rattle.tipc_link.specs.Links.{LinkEnd}
 use Rattle.tipc_link_fsm.specs.Ends.{IsSound}
@@ -17,6 +18,11 @@ pub record IsAtMost (most : ℕ) (x : PairEnds) : Type 0 where
   pub contact : x.contact ≤ most
   pub near : IfSome x.near (λ (e : LinkEnd). e.fsm.own ≤ most)
   pub far : IfSome x.far (λ (e : LinkEnd). e.fsm.own ≤ most)
+
+-- a link end tells whether its bearer is mended, and its link is up only where it is
+pub record StandsOn (mended : Bool) (e : LinkEnd) : Type 0 where
+  pub same : e.mended ≡ mended
+  pub up : is_up e.fsm.state ≡ true → mended ≡ true
 
 -- the highest number that a node can have: the first one of its boot, and one more for each entry of its journal
 abbrev pub highest_number : NodeState → ℕ
