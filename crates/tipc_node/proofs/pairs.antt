@@ -8,3 +8,4 @@ pub mod Sound
 pub mod Low
 pub mod RightEnds
 pub mod Mended
+pub mod Standing

@@ -10,7 +10,7 @@ use Rattle.tipc_outside.specs.declared.outgoing.Outgoing.{Outgoing}
 use Rattle.tipc_pair.specs.Facing.{alone}
 use Rattle.tipc_pair.specs.declared.transitions.Transition.{Transition}
 use Rattle.tipc_node.specs.declared.neighbours.Neighbour.{Neighbour}
-use Rattle.tipc_node.specs.Ends.{AreSoundEnds, HasRightEnds, IsAtMost, highest_number}
+use Rattle.tipc_node.specs.Ends.{AreSoundEnds, BothStand, HasRightEnds, IsAtMost, highest_number}
 use Rattle.tipc_node.specs.Nodes.{NodeState, change_entries, change_entry, neighbour_of, pair_with}
 use Rattle.tipc_node.specs.Telling.{IsTold}
 use Rattle.tipc_node.specs.Turns.{NodeTurn, is_change_of}
@@ -41,8 +41,10 @@ step_long s = let long = length-append s.inside (entry.Answered s.caller s.call 
 alone_most : (own peer boot more : ℕ) → IsAtMost (first_number boot + more) (alone own peer boot)
 alone_most own peer boot more = record { contact = omega arith; near = tt; far = tt }
 
-pub turn_right : (n n' : NodeState) (bytes : List ℕ) (s : NodeStep) (frames : List Outgoing) → IsTold n → NodeTurn n n' bytes s frames → HasRightEnds n → HasRightEnds n'
-turn_right n n' bytes s frames told t h = record { sound = sound; low = low }
+-- each turn that leaves the ends on mended bearers
+pub turn_right : (n n' : NodeState) (bytes : List ℕ) (s : NodeStep) (frames : List Outgoing) → IsTold n → NodeTurn n n' bytes s frames
+    → ((b : ℕ) (x : Neighbour) → neighbour_of n' b ≡ Some x → BothStand n'.mended x.pair) → HasRightEnds n → HasRightEnds n'
+turn_right n n' bytes s frames told t stand h = record { sound = sound; low = low; stand = stand }
   where
     sound : (b : ℕ) (x : Neighbour) → neighbour_of n' b ≡ Some x → AreSoundEnds x.pair
     sound b x there =
@@ -67,4 +69,5 @@ pub new_right : (n : NodeState) → ((b : ℕ) → neighbour_of n b ≡ None) �
 new_right n alone = record {
   sound = λ b x there. absurd (let wrong : None ≡ Some x = sym (alone b) ∙ there in cc);
   low = λ b x there. absurd (let wrong : None ≡ Some x = sym (alone b) ∙ there in cc);
+  stand = λ b x there. absurd (let wrong : None ≡ Some x = sym (alone b) ∙ there in cc);
 }
