@@ -16,7 +16,7 @@ hostile.py try PROGRAM KIND FIRST LAST LINES
     status 0 and answers each line; at the end the nodes are quiet, what they send each other comes, all of it, their tables are the
     same, and on each way all that was accepted in the present contact was delivered.
 
-A script can't change the bytes of a frame. Frames of changed bytes are handed to a node by the tests of tipc_node_tests.
+A script can't change the bytes of a frame.
 """
 
 import random

@@ -16,13 +16,17 @@ A row is a few files in rows/:
 rows/bad_lines.table has lines that are bad by themselves; each is run as a script of its own.
 
 A few cases more stand here, since no file can say them: a full device and a closed one behind standard output, a
-closed standard input, and little memory.
+closed standard input, and little memory. So do live runs, of which no two print the same numbers: each must end with its
+status, and print its first line, a line for each node, and the last one.
 """
 
 import os
+import re
 import resource
+import socket
 import subprocess
 import sys
+import time
 from pathlib import Path
 
 ROWS = Path(__file__).resolve().parent.parent / "rows"
@@ -31,7 +35,7 @@ KINDS = {".script", ".report", ".status", ".words", ".make"}
 TABLE = "bad_lines.table"
 
 A_NODE = b"node 1\n"
-USAGE, BAD_LINE, READ_FAULT, WRITE_FAULT, NO_MEMORY = 1, 2, 3, 4, 5
+USAGE, BAD_LINE, READ_FAULT, WRITE_FAULT, NO_MEMORY, BEARER_FAULT = 1, 2, 3, 4, 5, 7
 MEBIBYTE = 1 << 20
 
 
@@ -120,6 +124,7 @@ DEVICES = {
     "a closed input": (A_NODE, "run <&-", READ_FAULT),
     "other words over a closed input": (A_NODE, "walk <&-", USAGE),
     "other words over a full device": (A_NODE, "walk >/dev/full", USAGE),
+    "a live run over a full device": (b"", "live memory 2 1 1 >/dev/full", WRITE_FAULT),
 }
 
 
@@ -151,6 +156,93 @@ LITTLE_MEMORY = {
 }
 
 
+# The medium, nodes, callers of each, and messages of each of these.
+LIVE_RUNS = {
+    f"a live run {' '.join(map(str, plan))}": plan
+    for plan in [
+        ("memory", 2, 1, 1),
+        ("memory", 2, 2, 10),
+        ("memory", 3, 2, 20),
+        ("memory", 2, 1, 1000),
+        ("memory", 8, 8, 1),
+        ("memory", 8, 8, 100),
+        ("udp", 2, 1, 1),
+        ("udp", 4, 2, 100),
+    ]
+}
+
+# Words that are no live run's.
+NO_LIVE_RUNS = {
+    f"words {words!r}": words.split(" ")
+    for words in [
+        "live",
+        "live memory 2 1",
+        "live memory 2 1 1 1",
+        "live memory 1 1 1",
+        "live memory 9 1 1",
+        "live memory 2 0 1",
+        "live memory 2 9 1",
+        "live memory 2 1 0",
+        "live memory 2 1 1001",
+        "live memory 02 1 1",
+        "live memory +2 1 1",
+        "live memory 4294967298 1 1",
+        "live memory 2 1 x",
+        "live memory 2  1",
+        "live tcp 2 1 1",
+        "live udp 9 1 1",
+        "Live memory 2 1 1",
+        "memory 2 1 1",
+    ]
+}
+
+A_TAKEN_PORT = "a live run one of whose ports is taken"
+BASE_PORT = 40000
+
+
+def fault_of_report(report: bytes, nodes: int, callers: int, messages: int) -> str:
+    """What is wrong with the report of a live run that must end with `audit yes`; nothing where it is as it must be."""
+    lines = report.decode("ascii", "replace").splitlines()
+    wanted = [rf"nodes {nodes} callers {callers} messages {messages}"]
+    wanted += [rf"node {node} accepted \d+ delivered \d+ calls \d+" for node in range(1, nodes + 1)]
+    wanted += ["audit yes"]
+    for line, pattern in zip(lines, wanted):
+        if not re.fullmatch(pattern, line):
+            return f"{line!r}, wanted {pattern!r}"
+    return "" if len(lines) == len(wanted) and report.endswith(b"\n") else f"{len(lines)} lines, wanted {len(wanted)}"
+
+
+def take_port(port: int) -> socket.socket:
+    """A socket at a port of the loopback address, once nobody else has that."""
+    for _ in range(SECONDS):
+        taken = socket.socket(socket.AF_INET, socket.SOCK_DGRAM)
+        try:
+            taken.bind(("127.0.0.1", port))
+            return taken
+        except OSError:
+            taken.close()
+            time.sleep(1)
+    raise Missing(f"the port {port} is taken by another program")
+
+
+def fault_of_live(program: str, medium: str, *plan: int) -> str:
+    """The same for a live run."""
+    if medium == "udp":
+        take_port(BASE_PORT + 1).close()
+    ended = subprocess.run([program, "live", medium, *map(str, plan)], capture_output=True, timeout=SECONDS)
+    if ended.returncode != 0:
+        return f"status {ended.returncode}, wanted 0; {ended.stdout[-100:]!r}"
+    if ended.stderr:
+        return f"on standard error: {ended.stderr[:100]!r}"
+    return fault_of_report(ended.stdout, *plan)
+
+
+def fault_of_taken_port(program: str) -> str:
+    """The same for a live run that can't have one of its sockets."""
+    with take_port(BASE_PORT + 64 + 2):
+        return fault_of_run([program, "live", "udp", "2", "1", "1"], b"", b"", BEARER_FAULT)
+
+
 def names_of_rows() -> list:
     return sorted({path.stem for path in ROWS.iterdir() if path.suffix in KINDS})
 
@@ -163,7 +255,15 @@ def fault_of(program: str, name: str, table: dict) -> str:
             return fault_of_little(program, *LITTLE_MEMORY[name])
         if name in table:
             return fault_of_run([program, "run"], *table[name], BAD_LINE)
+        if name in NO_LIVE_RUNS:
+            return fault_of_run([program, *NO_LIVE_RUNS[name]], b"", b"", USAGE)
+        if name in LIVE_RUNS:
+            return fault_of_live(program, *LIVE_RUNS[name])
+        if name == A_TAKEN_PORT:
+            return fault_of_taken_port(program)
         return fault_of_row(program, name)
+    except Missing as missing:
+        return str(missing)
     except subprocess.TimeoutExpired:
         return f"not ended after {SECONDS} seconds"
 
@@ -179,7 +279,7 @@ def main(words: list) -> int:
         print(f"rows/{TABLE} can't be read: {error}")
         print("0 passed, 1 failed")
         return 1
-    names = words[1:] or [*names_of_rows(), *table, *DEVICES, *LITTLE_MEMORY]
+    names = words[1:] or [*names_of_rows(), *table, *DEVICES, *LITTLE_MEMORY, *NO_LIVE_RUNS, *LIVE_RUNS, A_TAKEN_PORT]
     if not os.access(program, os.X_OK):
         print(f"{program} isn't there, so no row was run")
         print(f"0 passed, {len(names)} failed")

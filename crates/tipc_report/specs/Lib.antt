@@ -1,4 +1,5 @@
 pub mod Answering
 pub mod Closing
+pub mod Live
 pub mod Telling
 pub mod Text

@@ -52,6 +52,8 @@ written_behind head report closing status.Limit before between after first rest 
 written_behind head report closing status.WriteFault before between after first rest = part_behind head report closing before between after first rest
 written_behind head report closing status.Usage before between after first rest = some_behind head report closing before between after first rest
 written_behind head report closing status.ReadFault before between after first rest = some_behind head report closing before between after first rest
+written_behind head report closing status.BearerFault before between after first rest = some_behind head report closing before between after first rest
+written_behind head report closing status.Differ before between after first rest = some_behind head report closing before between after first rest
 written_behind head report closing status.NoMemory before between after first rest = some_behind head report closing before between after first rest
 
 pub with_head : {from : ℕ} (head script : List ℕ) (s : Status) (start now : WorldState) (before between after : Option (List ℕ)) → Appends before between head → Reports [] from script s start now between after → Reports head from script s start now before after
@@ -91,6 +93,8 @@ head_cut head script status.Ok start before after part is = absurd is
 head_cut head script status.Usage start before after part is = absurd is
 head_cut head script status.BadLine start before after part is = absurd is
 head_cut head script status.ReadFault start before after part is = absurd is
+head_cut head script status.BearerFault start before after part is = absurd is
+head_cut head script status.Differ start before after part is = absurd is
 head_cut head script status.Limit start before after part is = absurd is
 
 -- memory ran out first: nothing was done or written

@@ -9,3 +9,5 @@ pub mod ReportLaws
 pub mod RunLaws
 pub mod WorldLaws
 pub mod MessageLaws
+pub mod LiveLaws
+pub mod LiveNodeLaws

@@ -240,6 +240,8 @@ stops script rest line behind number start old new before between after status.N
 stops script rest line behind number start old new before between after status.Ok u next run = absurd run
 stops script rest line behind number start old new before between after status.Usage u next run = absurd run
 stops script rest line behind number start old new before between after status.ReadFault u next run = absurd run
+stops script rest line behind number start old new before between after status.BearerFault u next run = absurd run
+stops script rest line behind number start old new before between after status.Differ u next run = absurd run
 
 -- what telling a limit comes to
 pub limit_told : (from number : ℕ) (line : List ℕ) (old new : Scene) (before after : Option (List ℕ)) (text : List ℕ) (s : Status) → TellsLimit number line old new text → IsLimitStatus s → (s ≡ status.Limit → Appends before after text)
@@ -251,6 +253,8 @@ limit_told from number line old new before after text status.Ok told is whole pa
 limit_told from number line old new before after text status.Usage told is whole part = absurd is
 limit_told from number line old new before after text status.BadLine told is whole part = absurd is
 limit_told from number line old new before after text status.ReadFault told is whole part = absurd is
+limit_told from number line old new before after text status.BearerFault told is whole part = absurd is
+limit_told from number line old new before after text status.Differ told is whole part = absurd is
 
 -- a script that was run to its end is without fault
 pub sound_at_end : {from : ℕ} (script : List ℕ) (start now : WorldState) (before after : Option (List ℕ)) (s : Status) → s ≡ status.Ok → Reports [] from script s start now before after → AreSound (lines_of script)
@@ -293,6 +297,8 @@ too_long script closing start before after status.Ok over is whole part = absurd
 too_long script closing start before after status.Usage over is whole part = absurd is
 too_long script closing start before after status.BadLine over is whole part = absurd is
 too_long script closing start before after status.ReadFault over is whole part = absurd is
+too_long script closing start before after status.BearerFault over is whole part = absurd is
+too_long script closing start before after status.Differ over is whole part = absurd is
 
 -- a script within the limits of a script was stopped by a limit of the world
 pub limit_reached : {from : ℕ} (head script : List ℕ) (s : Status) (start now : WorldState) (before after : Option (List ℕ)) → IsWithin script → s ≡ status.Limit → Reports head from script s start now before after → ReachesLimit from script start now

@@ -1,5 +1,10 @@
 pub mod Happenings
 pub mod Lines
+pub mod LiveCounts
+pub mod LivePlans
+pub mod LiveReports
+pub mod LiveRuns
+pub mod LiveWords
 pub mod Meanings
 pub mod Messages
 pub mod Nodes

@@ -1,7 +1,7 @@
 -- How a run ends, and the exit status of the program.
 use Rattle.std.specs.Prelude.{ℕ, Bool, true, false}
 use Rattle.tipc_sim.specs.declared.status.Status.{Status}
-use Rattle.tipc_sim.specs.declared.status.Status.TheVariants.{Ok, Usage, BadLine, ReadFault, WriteFault, NoMemory, Limit}
+use Rattle.tipc_sim.specs.declared.status.Status.TheVariants.{Ok, Usage, BadLine, ReadFault, WriteFault, NoMemory, Limit, BearerFault, Differ}
 
 -- how a run ends that came to this status, by whether a read and whether a write of it failed
 abbrev pub after_streams : Status → Bool → Bool → Status
@@ -24,3 +24,5 @@ code_of ReadFault = 3
 code_of WriteFault = 4
 code_of NoMemory = 5
 code_of Limit = 6
+code_of BearerFault = 7
+code_of Differ = 8

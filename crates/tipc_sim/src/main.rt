@@ -1,10 +1,11 @@
 //! Runs a script over a world of TIPC nodes: reads lines from standard input, does them one after the other,
-//! and answers each with one line on standard output.
+//! and answers each with one line on standard output. Or it lets threads call the nodes of a live run, and audits what their journals tell.
 #![tactic(auto)]
 
 mod frames;
 mod lines;
 mod linking;
+mod live;
 mod messages;
 mod notes;
 mod reading;
@@ -16,6 +17,7 @@ mod streams;
 mod words;
 mod writing;
 
+pub use live::{live_plan, run_live};
 pub use running::run;
 use standard::run_standard;
 pub use status::Status;
@@ -23,6 +25,6 @@ use std::env;
 use std::process::ExitCode;
 
 fn main(rt: HostRuntime) -> ExitCode {
-    let status = run_standard(&rt, env::args(&rt));
+    let status = run_standard(&rt, &rt, env::args(&rt));
     ExitCode::from(status.code())
 }

@@ -41,7 +41,7 @@ const MOST_LINES: usize = 65_536;
 const FIRST_TOLD: u32 = 1048;
 
 /// Writes a text, or answers the status of what stopped it.
-fn write_text<K: Sink>(sink: &mut K, text: &[u8]) -> Result<(), Status>
+pub(crate) fn write_text<K: Sink>(sink: &mut K, text: &[u8]) -> Result<(), Status>
     ensures ok { OnOk result (Appends (K.contents sink.old) (K.contents sink.new) text.now) }
     ensures part { OnErr result (AppendsPart (K.contents sink.old) (K.contents sink.new) text.now) }
     ensures status { IfErr result IsWriteStatus }

@@ -20,6 +20,10 @@ pub enum Status {
     NoMemory,
     /// A limit is reached: the script is too long, or the world has had too many events, frames or journal entries.
     Limit,
+    /// A bearer of a live run failed, or a socket couldn't be bound.
+    BearerFault,
+    /// The journals of a live run aren't those of a run of the world, or one doesn't show the plan and has no room for a call.
+    Differ,
 }
 
 impl Status {
@@ -48,7 +52,7 @@ impl Status {
         }
     }
 
-    /// The exit status of the program, from 0 to 6.
+    /// The exit status of the program, from 0 to 8.
     pub fn code(self) -> u8
         ensures { result ≡ code_of self }
     {
@@ -60,6 +64,8 @@ impl Status {
             Status::WriteFault => 4,
             Status::NoMemory => 5,
             Status::Limit => 6,
+            Status::BearerFault => 7,
+            Status::Differ => 8,
         }
     }
 }

@@ -1,0 +1,11 @@
+pub mod Again
+pub mod Auditing
+pub mod Calls
+pub mod Differing
+pub mod Following
+pub mod Fronts
+pub mod Gathering
+pub mod Keeping
+pub mod Nodes
+pub mod Stamping
+pub mod Telling

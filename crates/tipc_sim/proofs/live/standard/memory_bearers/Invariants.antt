@@ -1,0 +1,6 @@
+use Rattle.std.proofs.Common.{◌≡◌, length}
+use Rattle.tipc_sim.proofs.live.standard.memory_bearers.Given as goal
+
+-- so many bearers are made
+abbrev pub invariant-loop-place : goal.invariant-loop-place
+invariant-loop-place g l = length l.bearers.items ≡ l.place

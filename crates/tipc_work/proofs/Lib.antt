@@ -1,0 +1,7 @@
+mod Calling
+mod Carrying
+mod Crewing
+mod Jobs
+mod Locking
+mod Sending
+pub mod ShowingLaws
