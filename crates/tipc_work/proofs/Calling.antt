@@ -1,12 +1,10 @@
 -- What locked calls make of a pass, told in the words of a run.
-use Rattle.std.proofs.Common.{◌≡◌, inl, inr, true, ◌∙◌, ap, refl}
+use Rattle.std.proofs.Common.{◌≡◌, inl, inr, true, ◌∙◌, ap}
 use Rattle.std.specs.Prelude.{ℕ, Option, Some, None, Result, Ok, Err}
 use Rattle.tipc_types.specs.declared.message_forms.Message.{Message}
 use Rattle.tipc_types.specs.declared.node_calls.Answer.{Answer}
-use Rattle.tipc_types.specs.declared.node_calls.Answer.TheVariants as answer
 use Rattle.tipc_types.specs.declared.node_calls.Arrival.{Arrival}
 use Rattle.tipc_types.specs.declared.node_calls.EventNote.{EventNote}
-use Rattle.tipc_types.specs.declared.node_calls.EventNote.TheVariants.{Arrive}
 use Rattle.tipc_node.specs.declared.steps.NodeFault.TheVariants as node_fault
 use Rattle.tipc_node_lock.specs.declared.faults.LockFault.{LockFault}
 use Rattle.tipc_node_lock.specs.declared.faults.LockFault.TheVariants as fault

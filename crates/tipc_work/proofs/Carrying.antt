@@ -1,6 +1,6 @@
 -- What a mover's bearers, pass and clock tell, step by step and over many steps.
-use Rattle.std.specs.Prelude.{IsErrOf, Option, Some, None, Result, Ok, Err, min}
-use Rattle.std.proofs.Common.{◌≡◌, ◌⊎◌, inl, inr, ℕ, zero, suc, ◌+◌, ◌-◌, ◌*◌, ◌^◌, ◌<◌, ◌≤◌, Bool, true, false, if◌then◌else◌, arith, List, [], ◌∷◌, ◌++◌, append_assoc, append-nil, length, map, refl, sym, subst, ◌∙◌, ap}
+use Rattle.std.specs.Prelude.{IsErrOf, Option, Some, None, Result, Ok, Err}
+use Rattle.std.proofs.Common.{◌≡◌, ◌⊎◌, inl, inr, ℕ, ◌+◌, ◌<◌, ◌≤◌, Bool, true, false, if◌then◌else◌, arith, List, [], ◌∷◌, ◌++◌, append_assoc, append-nil, length, refl, sym, subst, ◌∙◌, ap}
 use Rattle.std.proofs.lemmas.List.{map-append}
 use Rattle.std.proofs.lemmas.List.Sums.{sum_by-append}
 use Rattle.tipc_types.specs.declared.node_calls.Answer.{Answer}
@@ -17,8 +17,8 @@ use Rattle.tipc_node_lock.specs.Locks.{LockState}
 use Rattle.tipc_node_lock.specs.Passes.{PassState, with_handed}
 use Rattle.tipc_work.specs.declared.movers.Bearers.{Bearers}
 use Rattle.tipc_work.specs.declared.movers.Mover.{Mover}
-use Rattle.tipc_work.specs.Called.{ArrivesSo, IsSameCaller, IsToldFull, MakesCall, IsAnsweredSo}
-use Rattle.tipc_work.specs.Moved.{AsksBearer, CarriesFrames, CarriesNothing, CountsOn, CarriesOn, CallsOn, HasMended, HasMoved, LooksAtBearer, TicksNot, TicksOnce, arrivals_made, is_arrival, is_tick_call, last_count, ticks_made}
+use Rattle.tipc_work.specs.Called.{ArrivesSo, IsSameCaller, IsAnsweredSo}
+use Rattle.tipc_work.specs.Moved.{AsksBearer, CarriesFrames, CarriesNothing, CarriesOn, CallsOn, HasMended, HasMoved, LooksAtBearer, TicksNot, TicksOnce, arrivals_made, is_arrival, last_count, ticks_made}
 use Rattle.tipc_work.specs.Plans.{ShowsMover}
 use Rattle.tipc_work.specs.Shown.{IsUnusedPass, calls_made}
 

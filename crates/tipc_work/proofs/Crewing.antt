@@ -1,6 +1,6 @@
 -- What the crews of the nodes do is what a run does: which passes and bearers are whose.
 use Rattle.std.specs.List.{All, list_any, range_with_len}
-use Rattle.std.proofs.Common.{◌≡◌, ◌⊎◌, inl, inr, ℕ, zero, suc, ◌+◌, ◌*◌, ◌<◌, ◌≤◌, Bool, true, false, ◌||◌, arith, List, [], ◌∷◌, ◌++◌, Ok, Err, append_assoc, append-nil, length, length-append, map, slice_index_or, refl, sym, subst, ◌∙◌, ap}
+use Rattle.std.proofs.Common.{◌≡◌, ◌⊎◌, inl, inr, ℕ, zero, suc, ◌+◌, ◌*◌, ◌<◌, ◌≤◌, Bool, true, false, ◌||◌, arith, List, [], ◌∷◌, ◌++◌, Ok, append_assoc, length, length-append, map, slice_index_or, refl, sym, subst, ◌∙◌, ap}
 use Rattle.std.specs.Prelude.{Option, Some, Result, IfOk, option_to_list}
 use Rattle.std.proofs.lemmas.List.{get_or-map, get_or_append_left, get_or_default, get_or_push, length-map, map-append}
 use Rattle.std.proofs.lemmas.List.Folds.{list_any-append}
@@ -9,8 +9,6 @@ use Rattle.tipc_outside.specs.Causes.{Rose}
 use Rattle.tipc_types.specs.declared.memory.NoMemory.{NoMemory}
 use Rattle.tipc_node_lock.specs.Locks.{LockState}
 use Rattle.tipc_node_lock.specs.Passes.{PassState}
-use Rattle.tipc_work.specs.declared.crews.Crew.{Crew}
-use Rattle.tipc_work.specs.declared.crews.Crewed.{Crewed}
 use Rattle.tipc_work.specs.declared.plans.LivePlan.{LivePlan}
 use Rattle.tipc_work.specs.Moved.{HasMoved}
 use Rattle.tipc_work.specs.Shown.{HasCalled, IsUnusedPass}

@@ -1,14 +1,12 @@
 -- What single calls make of a pass.
-use Rattle.std.specs.Prelude.{◌≡◌, ◌⊎◌, ◌+◌, ◌*◌, ◌<◌, ◌≤◌, ◌^◌, ◌++◌, ◌∷◌, [], ℕ, Bool, true, false, List, Option, Some, None, length, map}
+use Rattle.std.specs.Prelude.{◌≡◌, ◌+◌, ◌*◌, ◌<◌, ◌≤◌, ◌^◌, ◌++◌, ◌∷◌, [], ℕ, Bool, true, false, List, Option, Some, None, length, map}
 use Rattle.std.specs.List.{All}
 use Rattle.tipc_types.specs.declared.node_calls.Answer.{Answer}
-use Rattle.tipc_types.specs.declared.node_calls.Answer.TheVariants as answer
 use Rattle.tipc_types.specs.declared.node_calls.EventNote.{EventNote}
 use Rattle.tipc_types.specs.declared.node_calls.EventNote.TheVariants.{Arrive}
 use Rattle.tipc_node.specs.Sockets.{kept_answer}
-use Rattle.tipc_node_lock.specs.declared.passes.MadeCall.{MadeCall}
-use Rattle.tipc_node_lock.specs.Passes.{PassState, most_stamps}
-use Rattle.tipc_work.specs.Plans.{AreTries, ShowsCaller, is_again, named_send, sends_from}
+use Rattle.tipc_node_lock.specs.Passes.{PassState}
+use Rattle.tipc_work.specs.Plans.{AreTries, ShowsCaller, sends_from}
 use Rattle.tipc_work.specs.declared.plans.LivePlan.{LivePlan}
 use Rattle.tipc_work.specs.Shown.{calls_made}
 

@@ -1,5 +1,5 @@
 -- What a mover does with the frames of its node's two bearers, told by the numbers that its pass, the bearers and the clock show.
-use Rattle.std.specs.Prelude.{◌≡◌, ◌⊎◌, ◌+◌, ◌-◌, ◌^◌, ◌<◌, ◌≤◌, ◌++◌, ◌∷◌, [], ℕ, Bool, true, false, List, count_by, if◌then◌else◌}
+use Rattle.std.specs.Prelude.{◌≡◌, ◌⊎◌, ◌+◌, ◌-◌, ◌^◌, ◌<◌, ◌≤◌, ◌++◌, ℕ, Bool, true, false, List, count_by, if◌then◌else◌}
 use Rattle.tipc_types.specs.declared.node_calls.EventNote.{EventNote}
 use Rattle.tipc_types.specs.declared.node_calls.EventNote.TheVariants.{Arrive, Tick}
 use Rattle.tipc_outside.specs.Causes.{Rose, counted}

@@ -1,5 +1,5 @@
 -- What a live run needs of its nodes, and what its callers and movers show behind it.
-use Rattle.std.specs.Prelude.{◌≡◌, ◌+◌, ◌*◌, ◌<◌, ◌≤◌, ℕ, Bool, true, List, [], ◌∷◌, length, slice_index_or}
+use Rattle.std.specs.Prelude.{◌≡◌, ◌+◌, ◌*◌, ◌<◌, ℕ, Bool, true, List, [], ◌∷◌, length, slice_index_or}
 use Rattle.tipc_types.specs.Address.{node_word}
 use Rattle.tipc_outside.specs.Causes.{Rose}
 use Rattle.tipc_node_lock.specs.Locks.{LockState}

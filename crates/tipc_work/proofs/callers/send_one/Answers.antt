@@ -1,4 +1,4 @@
-use Rattle.std.proofs.Common.{◌≡◌, ◌+◌, ◌<◌, true, false, arith, length, refl, rules, sym, ◌∙◌, ap}
+use Rattle.std.proofs.Common.{◌≡◌, ◌<◌, true, false, arith, length, refl, rules, sym, ◌∙◌, ap}
 use Rattle.tipc_stamp.specs.Seats.{SeatState}
 use Rattle.tipc_work.proofs.Carrying.{same_still, same_then}
 use Rattle.tipc_work.proofs.Sending.{sent_so, tried_none, tried_out, tried_so}

@@ -1,4 +1,4 @@
-use Rattle.std.proofs.Common.{arith, ap, length}
+use Rattle.std.proofs.Common.{arith}
 use Rattle.tipc_work.specs.declared.crews.Crew.{Crew}
 use Rattle.tipc_work.proofs.Crewing.{crews_more}
 use Rattle.tipc_work.proofs.runs.crews_of.Goals as goal

@@ -1,4 +1,4 @@
-use Rattle.std.proofs.Common.{◌≡◌, ◌+◌, Bool, true, false, arith, subst, sym}
+use Rattle.std.proofs.Common.{◌+◌, subst, sym}
 use Rattle.tipc_work.specs.Plans.{named_send}
 use Rattle.tipc_work.specs.Showing.{BeginWithTries}
 use Rattle.tipc_work.proofs.ShowingLaws.{LeavesSends, leaves_more, leaves_none}

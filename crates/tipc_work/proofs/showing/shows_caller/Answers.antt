@@ -1,4 +1,4 @@
-use Rattle.std.proofs.Common.{◌≡◌, ◌≤◌, arith, ap, drop, length, rules, subst, sym, ◌∙◌}
+use Rattle.std.proofs.Common.{◌≡◌, ◌≤◌, arith, drop, length, rules, subst, sym}
 use Rattle.tipc_types.specs.declared.node_calls.EventNote.TheVariants.{Socket}
 use Rattle.tipc_work.specs.Plans.{named_send, port_made, publishing}
 use Rattle.tipc_work.specs.Showing.{AreSends}

@@ -1,5 +1,4 @@
-use Rattle.std.proofs.Common.{◌≡◌, ◌⊎◌, inl, inr, ◌+◌, ◌≤◌, Bool, true, false, arith, ap, length, refl, rules, subst, sym, ◌∙◌}
-use Rattle.std.proofs.lemmas.Bool.Decides.{nat_tests}
+use Rattle.std.proofs.Common.{◌≡◌, ◌⊎◌, inl, inr, ◌+◌, true, false, arith, ap, rules, subst, sym, ◌∙◌}
 use Rattle.tipc_work.specs.Plans.{is_again}
 use Rattle.tipc_work.specs.Showing.{BeginWithTries}
 use Rattle.tipc_work.proofs.ShowingLaws.{again_more, none_differs, none_over, tries_end}
