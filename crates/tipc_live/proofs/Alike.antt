@@ -53,9 +53,6 @@ flow_tells x y = search rules
 cause_tells : Tells cause.eq
 cause_tells x y = search rules
 
-link_tells : Tells link.eq
-link_tells x y = search rules
-
 may_tell : Tells (option_eq link.eq)
 may_tell None None = search rules
 may_tell None (Some y) = search rules

@@ -124,9 +124,6 @@ pub record AreTold (caller : ℕ) (ps : List PlacedStep) (told : List MadeCall) 
   pub count : number ≡ length (filter_map (λ p. call_of caller p.step) (take i ps))
   pub same : take number told ≡ filter_map (λ p. call_of caller p.step) (take i ps)
 
-pub told_none : (caller : ℕ) (ps : List PlacedStep) (told : List MadeCall) → AreTold caller ps told 0 0
-told_none caller ps told = record { count = refl; same = refl }
-
 -- the calls up to one step more
 calls_more : (caller : ℕ) (ps : List PlacedStep) (i : ℕ) (p : PlacedStep) → slice_get ps i ≡ Some p
     → filter_map (λ q. call_of caller q.step) (take (i + 1) ps) ≡ filter_map (λ q. call_of caller q.step) (take i ps) ++ filter_map (λ q. call_of caller q.step) (p ∷ [])

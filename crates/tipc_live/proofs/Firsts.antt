@@ -76,9 +76,6 @@ contains_last (x ∷ xs) y = by (contains_last xs y)
 abbrev pub FoundIn : List Entry → List PassState → Option CallName → Type 0
 FoundIn journal passes found = MatchOption found (All (TellsTrue journal) passes) (λ f. IsFirst journal passes f.caller f.call)
 
-pub found_in_none : (journal : List Entry) → FoundIn journal [] None
-found_in_none journal = λ i d less. absurd (omega (arith, less))
-
 -- a pass that tells what is so
 pub found_true : (journal : List Entry) (xs : List PassState) (p : PassState) (found : Option CallName) → FoundIn journal xs found → TellsTrue journal p
     → FoundIn journal (xs ++ p ∷ []) found

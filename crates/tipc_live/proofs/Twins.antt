@@ -107,9 +107,6 @@ rise_more xs m n next order rise within other i j before high =
     earlier : (j == n) ≡ false → j < n
     earlier isnt = grind (arith, nat_tests)
 
-pub rise_first : (xs : List ℕ) → RiseTo xs 1
-rise_first xs i j before high = absurd (omega (arith, before, high))
-
 -- ---- twins
 
 -- where numbers that rose so far stand beside themselves, that is the first that stands twice
