@@ -25,6 +25,7 @@ use Rattle.tipc_replay.proofs.casts.CastStarts.{start_casting}
 use Rattle.tipc_replay.proofs.casts.MemberLooks.{is_member, put_for, word_is}
 use Rattle.tipc_replay.proofs.casts.Meeting.{start_met}
 use Rattle.tipc_replay.proofs.journals.KeptWorlds.{start_watched}
+use Rattle.tipc_replay.proofs.states.EndsKept.{start_right}
 use Rattle.tipc_replay.proofs.states.PlainKept.{start_plain}
 use Rattle.tipc_replay.proofs.names.Sharing.{start_shared}
 use Rattle.tipc_replay.proofs.names.Rising.{numbers_rise}
@@ -105,6 +106,7 @@ is_replayed members air w =
       told = journals_tell members shared;
       tables = tables_agree members air h shared (λ a b own theirs. promise members air a b own theirs Zero h w.casts);
       answered = w.answered;
+      ends = w.ends;
     }
 
 -- where no nodes are
@@ -119,6 +121,7 @@ start_steady = record {
   plain = start_plain;
   aged = start_aged;
   casts = start_casting;
+  ends = start_right;
 }
 
 pub start_replayed : IsReplayed [] empty_air

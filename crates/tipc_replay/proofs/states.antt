@@ -4,5 +4,7 @@ pub mod Plain
 pub mod Shown
 pub mod InContact
 pub mod TurnSays
+pub mod Each
 pub mod PlainKept
+pub mod EndsKept
 pub mod StatesArrive

@@ -27,6 +27,7 @@ pub mod Answered
 pub mod Aged
 pub mod Heard
 pub mod Plain
+pub mod Ends
 pub mod Steady
 pub mod Replayed
 pub mod Casters

@@ -14,6 +14,7 @@ use Rattle.tipc_replay.specs.Addressed.{IsAddressed, IsPacketOf}
 use Rattle.tipc_replay.specs.Lawful.{AreLawful, HasBegun}
 use Rattle.tipc_replay.specs.Answered.{AllAnswered}
 use Rattle.tipc_replay.specs.Casters.{caster_at}
+use Rattle.tipc_replay.specs.Ends.{HaveRightEnds}
 use Rattle.tipc_replay.specs.Entered.{numbers_entered}
 use Rattle.tipc_replay.specs.Received.{AreReceived}
 use Rattle.tipc_replay.specs.Skies.{AirState, air_on}
@@ -74,3 +75,6 @@ pub record IsReplayed (members : List (Option MemberState)) (air : AirState) : T
   -- For each node and each of its boots: each call has a licensed answer, and each message its fate. A message by name went to one of the
   -- matches.
   pub answered : AllAnswered members
+  -- The link ends of each node are right: none was silent for more than 4 ticks, or up on a cut bearer, and no contact number or epoch is further above
+  -- the first one of the boot than the journal has entries.
+  pub ends : HaveRightEnds members

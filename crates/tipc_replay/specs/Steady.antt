@@ -3,6 +3,7 @@ use Rattle.std.specs.Prelude.{List, Option}
 use Rattle.tipc_replay.specs.Aged.{AreAged}
 use Rattle.tipc_replay.specs.Answered.{AllAnswered}
 use Rattle.tipc_replay.specs.Castings.{AreCasting}
+use Rattle.tipc_replay.specs.Ends.{HaveRightEnds}
 use Rattle.tipc_replay.specs.Met.{AreMet}
 use Rattle.tipc_replay.specs.Plain.{AllPlain}
 use Rattle.tipc_replay.specs.Received.{AreReceived}
@@ -22,3 +23,4 @@ pub record IsSteady (members : List (Option MemberState)) (air : AirState) : Typ
   pub plain : AllPlain members
   pub aged : AreAged members air
   pub casts : AreCasting members air
+  pub ends : HaveRightEnds members

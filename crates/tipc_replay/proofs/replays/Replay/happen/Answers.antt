@@ -1,5 +1,5 @@
 use Rattle.std.proofs.Common.{refl, subst, sym, ◌||◌}
-use Rattle.tipc_replay.specs.Calls.{HasNextBoot}
+use Rattle.tipc_replay.specs.Calls.{CanHappenAt, HasNextBoot}
 use Rattle.tipc_replay.specs.States.{ReplayState}
 use Rattle.tipc_replay.specs.Steady.{IsSteady}
 use Rattle.tipc_replay.specs.Steps.{stage, IsReplayStep, Stage}
@@ -12,6 +12,7 @@ use Rattle.tipc_replay.proofs.casts.Meeting.{becomes_met}
 use Rattle.tipc_replay.proofs.frames.AgedKept.{becomes_aged}
 use Rattle.tipc_replay.proofs.journals.KeptWorlds.{becomes_watched}
 use Rattle.tipc_replay.proofs.names.Sharing.{becomes_shared}
+use Rattle.tipc_replay.proofs.states.EndsKept.{becomes_right}
 use Rattle.tipc_replay.proofs.states.PlainKept.{becomes_plain}
 use Rattle.tipc_replay.proofs.replays.Replay.happen.Goals as goal
 
@@ -24,6 +25,7 @@ invariant_of-self-2 g c =
     let h = c.self.invariant in
     let old : Stage = stage w.members.items w.air in
     let new : Stage = stage c.happen.new.members.items c.happen.new.air in
+    let can = subst (λ (r : ReplayState). CanHappenAt r.members c.args.event) (sym c.self.view_is) c.requires.can in
     let next = subst (λ (r : ReplayState). HasNextBoot r.members c.args.event) (sym c.self.view_is) c.requires.next in
     let becomes = c.in_ok-happened.ensures.becomes in
     let sound = becomes_sound old new c.args.by c.args.event _ _ h next becomes in
@@ -39,6 +41,7 @@ invariant_of-self-2 g c =
       plain = becomes_plain old new c.args.by c.args.event _ _ becomes h.plain;
       aged = becomes_aged old new c.args.by c.args.event _ _ h.sound sound becomes h.aged;
       casts = becomes_casting old new c.args.by c.args.event _ _ h.sound h.met h.plain h.aged next becomes h.casts;
+      ends = becomes_right old new c.args.by c.args.event _ _ can becomes h.ends;
     }
 
 pub invariant_of-self : goal.invariant_of-self
