@@ -302,6 +302,14 @@ impl Replay {
         let _ = &self.members;
     }
 
+    /// Tells what each event keeps of the nodes and the air between them, from which all that [`Replay::good`] tells follows. It does
+    /// nothing.
+    pub fn steady(&self)
+        ensures { IsSteady self.now.members self.now.air }
+    {
+        let _ = &self.members;
+    }
+
     /// Adds a node that has just begun this boot, and knows nobody.
     ///
     /// # Errors
