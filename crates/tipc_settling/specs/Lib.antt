@@ -1,0 +1,11 @@
+pub mod Stillness
+pub mod Laws
+pub mod Beginnings
+pub mod Silence
+pub mod Bearers
+pub mod Events
+pub mod Goings
+pub mod Loads
+pub mod Freshness
+pub mod Repairs
+pub mod Rises
