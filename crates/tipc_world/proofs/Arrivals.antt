@@ -28,7 +28,7 @@ node_of : (place node : ℕ) → node < numbers → (numbers * place + node) % n
 node_of place node below = omega arith
 
 -- what it asks for
-asked_at : (among : Receivers) (bearer place node : ℕ) (w : WorldState) → node < numbers → arrival_asked among bearer w (numbers * place + node) ≡ arrival_at among bearer w place node
+pub asked_at : (among : Receivers) (bearer place node : ℕ) (w : WorldState) → node < numbers → arrival_asked among bearer w (numbers * place + node) ≡ arrival_at among bearer w place node
 asked_at among bearer place node w below =
     ap (λ k. arrival_at among bearer w k ((numbers * place + node) % numbers)) (place_of place node below) ∙ ap (λ k. arrival_at among bearer w place k) (node_of place node below)
 

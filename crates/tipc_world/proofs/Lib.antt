@@ -6,3 +6,4 @@ pub mod Promise
 pub mod Continuing
 pub mod CourseLaws
 pub mod Arrivals
+pub mod rounds

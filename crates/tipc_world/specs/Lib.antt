@@ -10,3 +10,7 @@ pub mod Good
 pub mod Courses
 pub mod Ends
 pub mod Settling
+pub mod Poised
+pub mod RoundParts
+pub mod StillWorlds
+pub mod CalmWorlds
