@@ -16,14 +16,24 @@ hostile.py try PROGRAM KIND FIRST LAST LINES
     status 0 and answers each line; at the end the nodes are quiet, what they send each other comes, all of it, their tables are the
     same, and on each way all that was accepted in the present contact was delivered.
 
-A script can't change the bytes of a frame.
+hostile.py bytes NODES FRAMES
+    A script can't change the bytes of a frame, so this needs no program: it runs the tests of tipc_node_tests by `rt try`, which
+    proves nothing, in a copy of the repository. There so many nodes hear so many frames each, at most 100,000, which two nodes sent
+    each other and which were changed at random; each frame must be one step of its node. It ends with the status of `rt try`.
 """
 
 import random
+import re
+import shutil
 import subprocess
 import sys
+import tempfile
 import time
+from pathlib import Path
 
+TOP = Path(__file__).resolve().parent.parent
+TESTS = "crates/tipc_node_tests"
+MOST_SECONDS = "3600"
 BOOTS_BASE = 1_048_576
 SERVICE = 300
 SENT_AT_END = 3
@@ -171,6 +181,26 @@ def try_all(program: str, kind: str, first: int, last: int, lines: int) -> int:
     return 1 if faults else 0
 
 
+def with_counts(text: str, nodes: int, frames: int) -> str:
+    """The text of the tests, with so many nodes that hear so many frames each."""
+    for name, count in (("HEARD: u32", frames), ("NODES: u64", nodes)):
+        text, found = re.subn(rf"^const {name} = \d+;$", f"const {name} = {count};", text, flags=re.MULTILINE)
+        if found != 1:
+            sys.exit(f"{TESTS}/src/hostile.rt has no line `const {name} = ..;`")
+    return text
+
+
+def change_bytes(nodes: int, frames: int) -> int:
+    """Lets so many nodes hear so many changed frames each, and answers the status of `rt try`."""
+    with tempfile.TemporaryDirectory() as room:
+        copy = Path(room) / "copy"
+        shutil.copytree(TOP, copy, ignore=shutil.ignore_patterns("out", ".git"))
+        tests = copy / TESTS / "src" / "hostile.rt"
+        tests.write_text(with_counts(tests.read_text(), nodes, frames))
+        words = ["rt", "try", "--test", "--steps", "1", "--seconds", MOST_SECONDS]
+        return subprocess.run(words, cwd=copy / TESTS, check=False).returncode
+
+
 def main() -> int:
     words = sys.argv[1:]
     if words[:1] == ["print"] and len(words) == 4 and words[1] in KINDS:
@@ -178,6 +208,8 @@ def main() -> int:
         return 0
     if words[:1] == ["try"] and len(words) == 6 and words[2] in KINDS:
         return try_all(words[1], words[2], *map(int, words[3:]))
+    if words[:1] == ["bytes"] and len(words) == 3:
+        return change_bytes(*map(int, words[1:]))
     print(__doc__.strip(), file=sys.stderr)
     return 2
 
