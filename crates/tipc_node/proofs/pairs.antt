@@ -9,3 +9,9 @@ pub mod Low
 pub mod RightEnds
 pub mod Mended
 pub mod Standing
+pub mod Rising
+pub mod Originals
+pub mod Sessions
+pub mod Bringing
+pub mod SessionFrames
+pub mod Numbers

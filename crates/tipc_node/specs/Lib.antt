@@ -11,6 +11,8 @@ pub mod Messages
 pub mod Multicasts
 pub mod Neighbours
 pub mod Nodes
+pub mod Numbers
+pub mod Originals
 pub mod Partings
 pub mod Plans
 pub mod Sharing

@@ -193,7 +193,7 @@ impl Core {
     }
 
     /// Its sockets hold together and have its address, its boot has a number from which contact numbers are made, there is
-    /// a place for each peer, and the send window of its broadcast link is one. It does nothing.
+    /// a place for each peer, the send window of its broadcast link is one, and its journal is within its limit. It does nothing.
     pub fn sound(&self)
         ensures sockets { AreSockets self.now.sockets }
         ensures own { self.now.sockets.own ≡ self.now.own }
@@ -201,7 +201,9 @@ impl Core {
         ensures epochs { (1 ≤ self.now.boot) × (self.now.boot < 2 ^ 32) }
         ensures wide { length self.now.neighbours ≡ 33 }
         ensures sending { IsSending self.now.casting.sending }
+        ensures few { length self.now.journal ≤ 1048576 }
     {
+        let _ = self.journal.len();
         let _ = self.broadcast.numbered();
         let _ = self.draft.sockets().live();
         let _ = self.draft.neighbours();

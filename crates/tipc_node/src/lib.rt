@@ -38,7 +38,7 @@ mod steps;
 mod sure;
 mod tellings;
 
-pub use laws::link_ends_stay_right;
+pub use laws::{link_ends_stay_right, numbers_never_fall, originals_name_ended_sessions};
 pub use neighbours::Neighbour;
 pub use nodes::Node;
 pub use steps::NodeFault;

@@ -15,6 +15,7 @@ ghost use Rattle.tipc_broadcast.specs.Casting.{booted};
 ghost use Rattle.tipc_node.specs.Discovery.{nobody_heard};
 ghost use Rattle.tipc_node.specs.Nodes.{contact_with, end_with, is_mended_on, node_load, neighbour_of, promising};
 ghost use Rattle.tipc_journal.specs.Room.{has_journal_room};
+ghost use Rattle.tipc_node.specs.Numbers.{IsBounded};
 ghost use Rattle.tipc_node.specs.Sharing.{SharesNames};
 ghost use Rattle.tipc_node.specs.Telling.{IsTold};
 ghost use Rattle.tipc_node.specs.Valid.{GrewByStep, IsValid};
@@ -75,6 +76,7 @@ impl Node {
         ensures promised { IfOk result (λ n. n.promised ≡ 0) }
         ensures told { IfOk result (λ n. IsTold n) }
         ensures shares { IfOk result (λ n. SharesNames n) }
+        ensures bounded { IfOk result (λ n. IsBounded n) }
     {
         let core = Core::new(alloc, own, boot)?;
         core.sound();
@@ -260,6 +262,7 @@ impl Node {
         ensures only { result ≡ Err NodeFault.JournalFull → has_journal_room self.old.journal ≡ false }
         ensures succeeds { 0 < self.old.promised → has_journal_room self.old.journal ≡ true →
             TakesNoMemory self.old.sockets call → IsOk result }
+        ensures bounded { IsBounded self.new }
         ensures err { OnErr result ((self.new ≡ self.old) × (out.new ≡ out.old) × (chooser.new ≡ chooser.old)) }
     {
         ranged(&call);
@@ -290,6 +293,7 @@ impl Node {
         ensures ok { IfOk result (λ a. Arrived self.old by bearer number frame.now self.new out.old out.new a) }
         ensures grew { OnOk result (GrewByStep self.old.journal self.new.journal) }
         ensures valid { IsValid self.new }
+        ensures bounded { IsBounded self.new }
         ensures room { OnOk result (has_journal_room self.old.journal ≡ true) }
         ensures full { has_journal_room self.old.journal ≡ false → result ≡ Err NodeFault.JournalFull }
         ensures only { result ≡ Err NodeFault.JournalFull → has_journal_room self.old.journal ≡ false }

@@ -25,3 +25,6 @@ pub returns-clause-valid : goal.returns-clause-valid
 returns-clause-valid c =
     valid_of c.arrive-arrival.new.self
     (arrival_kept c.self.inside.core c.arrive-arrival.new.self c.args.by c.args.bearer c.args.number c.args.frame.now c.args.out.now c.arrive-arrival.new.out c.arrive-arrival.result c.self.invariant c.sound.ensures.sockets c.sound.ensures.sending c.arrive-arrival.ensures.ok (same_node c.self.inside.core c.arrive-arrival.new.self c.args.out.now c.arrive-arrival.new.out c.arrive-arrival.result c.arrive-arrival.ensures.err)).0
+
+pub returns-clause-bounded : goal.returns-clause-bounded
+returns-clause-bounded c = record { boot = c.sound.ensures.epochs; few = c.sound.ensures.few }

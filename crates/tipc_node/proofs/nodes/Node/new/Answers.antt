@@ -27,3 +27,6 @@ returns-clause-told c =
 
 pub returns-clause-shares : goal.returns-clause-shares
 returns-clause-shares c = new_shares c.in_ok-core.core c.in_ok-core.ensures.empty.1
+
+pub returns-clause-bounded : goal.returns-clause-bounded
+returns-clause-bounded c = record { boot = c.sound.ensures.epochs; few = c.sound.ensures.few }

@@ -22,3 +22,6 @@ returns-clause-picked g c =
     let n = c.self.inside.core in
     subst (λ (m : NodeState). IfOk c.perform-answer.result (λ a. (turn : ℕ) → turn % 2 ^ 64 ≡ c.args.chooser.now.turn → IsPicked (g.P.Pick.gives c.args.chooser.now.pick) turn (addr_of_word m.own) m.journal c.args.call a)) c.self.view_is
     (IfOk-weaker c.perform-answer.result _ _ (λ a picked turn at. picked_of (g.P.Pick.gives c.args.chooser.now.pick) turn n c.args.call a c.self.invariant.0 (picked turn at)) c.perform-answer.ensures.picked)
+
+pub returns-clause-bounded : goal.returns-clause-bounded
+returns-clause-bounded g c = record { boot = c.sound.ensures.epochs; few = c.sound.ensures.few }
