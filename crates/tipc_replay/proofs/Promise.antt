@@ -25,7 +25,7 @@ use Rattle.tipc_replay.proofs.casts.CastStarts.{start_casting}
 use Rattle.tipc_replay.proofs.casts.MemberLooks.{is_member, put_for, word_is}
 use Rattle.tipc_replay.proofs.casts.Meeting.{start_met}
 use Rattle.tipc_replay.proofs.journals.KeptWorlds.{start_watched}
-use Rattle.tipc_replay.proofs.states.EndsKept.{start_right}
+use Rattle.tipc_replay.proofs.states.EndsKept.{all_low, start_bounded, start_named, start_numbers, start_right}
 use Rattle.tipc_replay.proofs.states.PlainKept.{start_plain}
 use Rattle.tipc_replay.proofs.names.Sharing.{start_shared}
 use Rattle.tipc_replay.proofs.names.Rising.{numbers_rise}
@@ -107,6 +107,8 @@ is_replayed members air w =
       tables = tables_agree members air h shared (λ a b own theirs. promise members air a b own theirs Zero h w.casts);
       answered = w.answered;
       ends = w.ends;
+      low = all_low members w.ends w.numbers w.bounded;
+      originals = w.originals;
     }
 
 -- where no nodes are
@@ -122,6 +124,9 @@ start_steady = record {
   aged = start_aged;
   casts = start_casting;
   ends = start_right;
+  bounded = start_bounded;
+  numbers = start_numbers;
+  originals = start_named;
 }
 
 pub start_replayed : IsReplayed [] empty_air

@@ -10,17 +10,19 @@ use Rattle.tipc_outside.specs.declared.outgoing.Outgoing.{Outgoing}
 use Rattle.tipc_outside.specs.Frames.{Adds, Out}
 use Rattle.tipc_node.specs.Arrivals.{Arrives}
 use Rattle.tipc_node.specs.Calls.{CallTurn, Performs}
+use Rattle.tipc_node.specs.Numbers.{IsBounded}
 use Rattle.tipc_node.specs.Sockets.{kept_answer}
 use Rattle.tipc_replay.specs.declared.events.WorldEvent.{WorldEvent}
 use Rattle.tipc_replay.specs.declared.events.WorldEvent.TheVariants.{Restart, Call, Arrive}
 use Rattle.tipc_replay.specs.Members.{arrived_member, called, sender_of, IsRestarted}
 use Rattle.tipc_replay.specs.States.{MemberState}
 
--- the node performs a call, which is recorded
+-- the node performs a call, which is recorded, and stays within its limits
 pub record Makes (by : By) (call : EventNote) (m m' : MemberState) (frames : List Outgoing) (answered : Answer)
     : Type 0 where
   pub performs : Performs m.node by call m'.node frames answered
   pub turn : CallTurn m.node m'.node by call [] (kept_answer answered) frames
+  pub bounded : IsBounded m'.node
   pub after : m' ≡ called m m'.node
 
 -- these bytes arrive at the node, those of the frame of that place in a bearer's air
@@ -30,6 +32,7 @@ pub record Meets (by : By) (bearer place : ℕ) (bytes : List ℕ) (m m' : Membe
   pub arrives : Arrives m.node m'.node by bearer (length m.arrivals) bytes frames arrived
   pub turn : CallTurn m.node m'.node by (note.Arrive bearer (length m.arrivals)) bytes
       (answer.Arrived arrived) frames
+  pub bounded : IsBounded m'.node
   pub answer_is : answered ≡ answer.Arrived arrived
   pub after : m' ≡ arrived_member m m'.node (sender_of bytes) bearer place
 

@@ -10,6 +10,7 @@ use Rattle.tipc_link.specs.Sessions.{SessionEnd}
 use Rattle.tipc_sockets.specs.SocketTables.{no_sockets}
 use Rattle.tipc_node.specs.Discovery.{nobody_heard}
 use Rattle.tipc_node.specs.Nodes.{NodeState, neighbour_of}
+use Rattle.tipc_node.specs.Numbers.{IsBounded}
 use Rattle.tipc_node.specs.Sharing.{SharesNames}
 use Rattle.tipc_node.specs.Telling.{IsTold}
 use Rattle.tipc_replay.specs.Readers.{node_number}
@@ -93,6 +94,7 @@ pub record IsFresh (n : NodeState) (own boot : ℕ) : Type 0 where
   pub no_history : n.journal ≡ []
   pub told : IsTold n
   pub shares : SharesNames n
+  pub bounded : IsBounded n
 
 -- A node was restarted: its journal is kept, and it begins its next boot. How many packets it ever numbered stays
 -- known, and how many numbers its broadcast link used is noted for the boot that is over.

@@ -14,7 +14,7 @@ use Rattle.tipc_replay.specs.Addressed.{IsAddressed, IsPacketOf}
 use Rattle.tipc_replay.specs.Lawful.{AreLawful, HasBegun}
 use Rattle.tipc_replay.specs.Answered.{AllAnswered}
 use Rattle.tipc_replay.specs.Casters.{caster_at}
-use Rattle.tipc_replay.specs.Ends.{HaveRightEnds}
+use Rattle.tipc_replay.specs.Ends.{AllNameEnded, HaveLowNumbers, HaveRightEnds}
 use Rattle.tipc_replay.specs.Entered.{numbers_entered}
 use Rattle.tipc_replay.specs.Received.{AreReceived}
 use Rattle.tipc_replay.specs.Skies.{AirState, air_on}
@@ -78,3 +78,8 @@ pub record IsReplayed (members : List (Option MemberState)) (air : AirState) : T
   -- The link ends of each node are right: none was silent for more than 4 ticks, or up on a cut bearer, and no contact number or epoch is further above
   -- the first one of the boot than the journal has entries.
   pub ends : HaveRightEnds members
+  -- The counts in the contact numbers and the epochs of each node are below 4,000,000,000, whatever has happened.
+  pub low : HaveLowNumbers members
+  -- An original tunnel packet that waits or is unacknowledged at a node names a session that is over: its epoch is below the own epoch of the link end
+  -- on the bearer that it names.
+  pub originals : AllNameEnded members

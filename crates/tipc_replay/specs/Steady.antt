@@ -3,7 +3,7 @@ use Rattle.std.specs.Prelude.{List, Option}
 use Rattle.tipc_replay.specs.Aged.{AreAged}
 use Rattle.tipc_replay.specs.Answered.{AllAnswered}
 use Rattle.tipc_replay.specs.Castings.{AreCasting}
-use Rattle.tipc_replay.specs.Ends.{HaveRightEnds}
+use Rattle.tipc_replay.specs.Ends.{AllNameEnded, AreBounded, HaveOwnNumbers, HaveRightEnds}
 use Rattle.tipc_replay.specs.Met.{AreMet}
 use Rattle.tipc_replay.specs.Plain.{AllPlain}
 use Rattle.tipc_replay.specs.Received.{AreReceived}
@@ -24,3 +24,6 @@ pub record IsSteady (members : List (Option MemberState)) (air : AirState) : Typ
   pub aged : AreAged members air
   pub casts : AreCasting members air
   pub ends : HaveRightEnds members
+  pub bounded : AreBounded members
+  pub numbers : HaveOwnNumbers members
+  pub originals : AllNameEnded members

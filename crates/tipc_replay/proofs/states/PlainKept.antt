@@ -56,4 +56,4 @@ pub start_plain : AllPlain []
 start_plain = none_each HasPlainPairs
 
 pub joined_plain : (old new : List (Option MemberState)) (n first : ℕ) → JoinsAt old new n first → AllPlain old → AllPlain new
-joined_plain old new n first j all = joined_each HasPlainPairs old new n first alone_plain j all
+joined_plain old new n first j all = joined_each HasPlainPairs old new n first (λ fresh h. alone_plain fresh h.alone) j all

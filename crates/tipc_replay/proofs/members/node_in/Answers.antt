@@ -20,4 +20,5 @@ returns c =
       no_history = made.empty.1;
       told = made.told;
       shares = made.shares;
+      bounded = made.bounded;
     }

@@ -27,6 +27,7 @@ returns-clause-ok c =
       no_history = c.in_ok-next.ensures.empty.1;
       told = c.in_ok-next.ensures.told;
       shares = c.in_ok-next.ensures.shares;
+      bounded = c.in_ok-next.ensures.bounded;
     }) in
     let past : map (λ j. j.entries) c.push_reserved.new.self.items ≡ m.past ++ m.node.journal ∷ [] =
     ap (map (λ j. j.entries)) (c.push_reserved.ensures.items ∙ ap (λ js. js ++ c.into_journal.result ∷ []) c.in_ok-reserve.ensures.items) ∙ map-append (λ j. j.entries) w.past.items (c.into_journal.result ∷ [])

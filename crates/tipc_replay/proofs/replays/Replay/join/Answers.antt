@@ -9,7 +9,7 @@ use Rattle.tipc_replay.proofs.casts.MetStarts.{joined_met}
 use Rattle.tipc_replay.proofs.frames.AgedKept.{joined_aged}
 use Rattle.tipc_replay.proofs.journals.KeptWorlds.{joined_watched}
 use Rattle.tipc_replay.proofs.names.Sharing.{joined_shared}
-use Rattle.tipc_replay.proofs.states.EndsKept.{joined_right}
+use Rattle.tipc_replay.proofs.states.EndsKept.{joined_bounded, joined_named, joined_numbers, joined_right}
 use Rattle.tipc_replay.proofs.states.PlainKept.{joined_plain}
 use Rattle.tipc_replay.proofs.replays.Replay.join.Goals as goal
 
@@ -33,6 +33,9 @@ invariant_of-self-2 c =
       aged = joined_aged w.members.items _ w.air c.args.n c.args.boot c.requires.boot absent j h.aged;
       casts = joined_casting w.members.items _ w.air c.args.n c.args.boot c.requires.range c.requires.boot few absent j h.casts;
       ends = joined_right w.members.items _ c.args.n c.args.boot j h.ends;
+      bounded = joined_bounded w.members.items _ c.args.n c.args.boot j h.bounded;
+      numbers = joined_numbers w.members.items _ c.args.n c.args.boot j h.numbers;
+      originals = joined_named w.members.items _ c.args.n c.args.boot j h.originals;
     }
 
 pub invariant_of-self : goal.invariant_of-self
