@@ -17,10 +17,10 @@ use Rattle.tipc_recv_window.specs.Receiving.{Receiving, arrived_at, gap_of, past
 use Rattle.tipc_recv_window.proofs.ArrivalLaws.{place_at-wanted}
 use Rattle.tipc_recv_window.proofs.Comings.{due_in_order}
 use Rattle.tipc_link.specs.Records.{is_early_tunnel, is_tunnel, standing}
-use Rattle.tipc_link.specs.Sessions.{SessionEnd, Carries, brought, content_of, due_with, gap, highest, is_behind, past, receiving, after_acknowledgement, repeated, spoke, state_fields}
+use Rattle.tipc_link.specs.Sessions.{SessionEnd, Carries, Shows, brought, content_of, due_with, gap, highest, is_behind, past, receiving, after_acknowledgement, repeated, spoke, state_fields}
 use Rattle.tipc_link.specs.Direction.{IsDirection, IsReceiver}
 use Rattle.tipc_link.proofs.Directions.{taken_recently}
-use Rattle.tipc_repair.specs.Laws.{GapsAreRepeated, GapsAreTold, RepeatsAreTaken, SendsTo, StatesRelease, StatesShow}
+use Rattle.tipc_repair.specs.Laws.{EarlierGapsAreRepeated, EarlierStatesRelease, EarlierStatesShow, GapsAreRepeated, GapsAreTold, RepeatsAreTaken, SendsTo, StatesRelease, StatesShow}
 use Rattle.tipc_repair.proofs.Going.{hearings}
 
 -- ---- a STATE shows the next position
@@ -199,3 +199,57 @@ repeats_are_taken s r line by acknowledgement position packet h near = elim (cas
       let one = taken_now (after_acknowledgement r acknowledgement) (brought (number_of position) packet by) h.receiver.wants same in
       omega (arith, near, one)
 ]
+
+-- ---- what was told a while ago
+
+highest_covers : (r : SessionEnd) (numbered : ℕ) → r.taken ≤ numbered → numbered ≤ r.taken + 50 → numbered + 1 ≤ highest r (number_of (numbered + 1))
+unfolding highest ahead
+highest_covers r numbered from near =
+    let far : past r (number_of (numbered + 1)) ≡ numbered + 1 - (r.taken + 1) = distance_of-ahead (r.taken + 1) (numbered + 1) (omega arith) (omega arith) in
+    let test : nat_le (numbered + 1 - (r.taken + 1)) 32767 ≡ true = grind (arith, nat_tests) in
+    rw far (rw test (omega arith))
+
+pub earlier_states_show : EarlierStatesShow
+unfolding content_of state_fields
+earlier_states_show told s r line broadcast probe by h on from =
+    let d = h.direction in
+    let recent = taken_recently s.sending r.taken line d in
+    let all = on.numbered in
+    let next = number_of (told.sending.numbered + 1) in
+    let released = after_acknowledgement r (number_of told.taken) in
+    let same : highest (spoke released (repeated released (number_of told.taken) (gap told))) next ≡ highest r next =
+    spoke_highest released (repeated released (number_of told.taken) (gap told)) next ∙ highest_released r (number_of told.taken) next in
+    let covers = highest_covers r told.sending.numbered from (omega (arith, recent, all)) in
+    omega (arith, same, covers)
+
+-- the direction as it stands where so many, of those that were taken, are looked at
+direction_to : (s : Sending) (taken so_far : ℕ) (line : List (List ℕ)) → IsDirection s taken line → acked_of s ≤ so_far → so_far ≤ taken → IsDirection s so_far line
+direction_to s taken so_far line h from to =
+    let all = h.taken_numbered in
+    record { window = h.window; below = h.below; count = h.count; kept = h.kept; acked_taken = from; taken_numbered = omega (arith, all, to) }
+
+-- what a STATE of so many that were taken leaves acknowledged
+released_at_least : (s : Sending) (taken so_far : ℕ) (line : List (List ℕ)) → IsDirection s taken line → so_far ≤ taken → acked_of s ≤ so_far → so_far ≤ acked_of (acknowledged s (number_of so_far))
+released_at_least s taken so_far line h to from = let is = acked_is s so_far line (direction_to s taken so_far line h from to) in omega (arith, is)
+
+pub earlier_states_release : EarlierStatesRelease
+unfolding content_of state_fields
+earlier_states_release s told r line broadcast probe by h on =
+    elim (cases_lt told.taken (acked_of s.sending)) [
+      | inl released ↦
+          let more = (hearings s by (number_of told.taken) (Shows (number_of (told.sending.numbered + 1)) (gap told) probe)).acked in
+          omega (arith, released, more)
+      | inr from ↦
+          let released = after_acknowledgement s (number_of told.taken) in
+          let same = ap acked_of (spoke_sending released (repeated released (number_of told.taken) (gap told))) in
+          let acked = released_at_least s.sending r.taken told.taken line h.direction on.taken from in
+          omega (arith, same, acked)
+    ]
+
+pub earlier_gaps_are_repeated : EarlierGapsAreRepeated
+unfolding content_of state_fields repeated
+earlier_gaps_are_repeated s told r line broadcast probe position packet h on acked most from last there =
+    let d = direction_to s.sending r.taken told.taken line h.direction acked on.taken in
+    let at : slice_get (kept_of (acknowledged s.sending (number_of told.taken))) (position - 1 - told.taken) ≡ Some (kept_at position packet) =
+    ap (λ (ks : List Kept). slice_get ks (position - 1 - told.taken)) (kept_is s.sending told.taken line d) ∙ stands told.taken position line packet from there in
+    filter_has (is_behind (number_of told.taken) (gap told)) (kept_of (acknowledged s.sending (number_of told.taken))) (position - 1 - told.taken) (kept_at position packet) at (behind told.taken position (gap told) packet from last most)

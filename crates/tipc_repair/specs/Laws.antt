@@ -29,8 +29,9 @@ repeated_at e acknowledgement other = []
 
 -- ---- what an end does takes nothing back
 
--- what was acknowledged of its packets, what it took, and what it was shown are no less than before
+-- what it numbered, what was acknowledged of that, what it took, and what it was shown are no less than before
 pub record GoesOn (before after : SessionEnd) : Type 0 where
+  pub numbered : before.sending.numbered ≤ after.sending.numbered
   pub acked : acked_of before.sending ≤ acked_of after.sending
   pub taken : before.taken ≤ after.taken
   pub shown : before.shown ≤ after.shown
@@ -92,3 +93,24 @@ RepeatsAreTaken = (s r : SessionEnd) (line : List (List ℕ)) (by acknowledgemen
 abbrev pub StatesRelease : Type 0
 StatesRelease = (s r : SessionEnd) (line : List (List ℕ)) (broadcast : BroadcastState) (probe : Bool) (by : ℕ) → SendsTo s r line
     → acked_of (hears s by (state_fields r broadcast probe)).sending ≡ r.taken
+
+-- ---- what was told a while ago; `told` is an end as it was when it told its STATE
+
+-- The receiver hears a STATE of the sender: it was shown the position behind those that were numbered then, where it hasn't taken that one.
+abbrev pub EarlierStatesShow : Type 0
+EarlierStatesShow = (told s r : SessionEnd) (line : List (List ℕ)) (broadcast : BroadcastState) (probe : Bool) (by : ℕ) → SendsTo s r line → GoesOn told s
+    → r.taken ≤ told.sending.numbered → told.sending.numbered + 1 ≤ (hears r by (state_fields told broadcast probe)).shown
+
+-- The sender hears a STATE of the receiver: at least what the receiver had taken is acknowledged.
+abbrev pub EarlierStatesRelease : Type 0
+EarlierStatesRelease = (s told r : SessionEnd) (line : List (List ℕ)) (broadcast : BroadcastState) (probe : Bool) (by : ℕ) → SendsTo s r line → GoesOn told r
+    → told.taken ≤ acked_of (hears s by (state_fields told broadcast probe)).sending
+
+-- The sender, of whose packets no more are acknowledged than the receiver had taken, hears a STATE that tells a gap: it sends the packet at each
+-- position of the gap again.
+abbrev pub EarlierGapsAreRepeated : Type 0
+EarlierGapsAreRepeated = (s told r : SessionEnd) (line : List (List ℕ)) (broadcast : BroadcastState) (probe : Bool) (position : ℕ) (packet : List ℕ)
+    → SendsTo s r line → GoesOn told r → acked_of s.sending ≤ told.taken → gap told ≤ window_size → told.taken < position → position ≤ told.taken + gap told
+    → slice_get line (position - 1) ≡ Some packet
+    → Contains (repeated_at s (state_fields told broadcast probe).acknowledgement (content_of (state_fields told broadcast probe)))
+    (record { number = number_of position; packet = packet })

@@ -4,9 +4,9 @@
 //! whatever came before. One after the other they bring a packet that was numbered: a STATE shows that it is missing, a STATE
 //! tells the gap, the packet is sent again and taken, and a STATE releases it. None of them is undone by what comes between.
 
-ghost use Rattle.tipc_repair.specs.Laws.{AnswersGoOn, FlushesGoOn, GapsAreRepeated, GapsAreTold, HearingsGoOn, PutsGoOn, RecordsGoOn, RepeatsAreTaken, StatesRelease, StatesShow, TellingsGoOn};
+ghost use Rattle.tipc_repair.specs.Laws.{AnswersGoOn, EarlierGapsAreRepeated, EarlierStatesRelease, EarlierStatesShow, FlushesGoOn, GapsAreRepeated, GapsAreTold, HearingsGoOn, PutsGoOn, RecordsGoOn, RepeatsAreTaken, StatesRelease, StatesShow, TellingsGoOn};
 
-/// Whatever an end does in a session, what was acknowledged of its packets, what it took of its peer's, and the next position that
+/// Whatever an end does in a session, what it numbered, what was acknowledged of its packets, what it took of its peer's, and the next position that
 /// the peer has shown don't fall: when it hears any packet, when packets are put or move up, when it sends a STATE or the one that
 /// is due, and when a packet comes through the other link.
 pub fn never_falls()
@@ -42,4 +42,12 @@ pub fn a_repeat_is_taken()
 /// Once the sender has heard a STATE of the receiver, what the receiver took is acknowledged, and no more than that.
 pub fn a_state_releases()
     ensures { StatesRelease }
+{}
+
+/// A STATE serves as well where both ends have gone on since it was told: the receiver was shown the position that it shows, or has taken it; what it
+/// acknowledges is acknowledged; and where no more than that was, the packets of its gap are sent again. (TIPC 2.0 draft.)
+pub fn an_earlier_state_serves()
+    ensures shows { EarlierStatesShow }
+    ensures releases { EarlierStatesRelease }
+    ensures repeats { EarlierGapsAreRepeated }
 {}
