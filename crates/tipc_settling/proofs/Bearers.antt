@@ -47,7 +47,7 @@ use Rattle.tipc_settling.proofs.Rows.{shown_quiet}
 use Rattle.tipc_settling.proofs.Sending.{framed_at}
 
 -- whatever a STATE shows of the broadcast
-abbrev same : BroadcastState → BroadcastState
+abbrev pub same : BroadcastState → BroadcastState
 same shown = shown
 
 -- what was up after a move by which it didn't go up was up before
@@ -257,7 +257,7 @@ module _ (M : ℕ → Bool) where
         says_on b e o.after o.change shown h (λ up. absurd (true≢false (sym (ap is_going_up up) ∙ quiet))) (λ probe is. h.up (back_up e.fsm None o m quiet (says probe is))),
       )
 
-  step_on : (x : PairEnds) (a : Act) (e : LinkEnd) (o : Outcome) (e' : LinkEnd) (states numbered : List Outgoing) (epoch : ℕ) → MayOn x a → On x.bearer e → Steps x e a o e' states numbered epoch → StepsOn M x.bearer o.change e' states numbered
+  pub step_on : (x : PairEnds) (a : Act) (e : LinkEnd) (o : Outcome) (e' : LinkEnd) (states numbered : List Outgoing) (epoch : ℕ) → MayOn x a → On x.bearer e → Steps x e a o e' states numbered epoch → StepsOn M x.bearer o.change e' states numbered
   step_on x _ e _ _ _ _ _ may h cut = absurd may
   step_on x _ e _ _ _ _ _ may h (tick shown) =
       let held = is_up_at x.far in
@@ -309,7 +309,7 @@ module _ (M : ℕ → Bool) where
       (record { end = moved_at x.bearer e (let_go e) None o k.end m quiet refl refl refl; mended = k.mended; up = λ is. k.up (back_up e.fsm None o m quiet is) }) h
       (tested (All F) (is_answer o.change) (reset_frames (with_fsm e o.after)) [] (λ _. resets_on x.bearer (with_fsm e o.after) (let end = k.end in end.on) k.mended) (λ _. All-nil F)) (All-nil F)
 
-  act_sends : (x : PairEnds) (a : Act) (c : Course) → MayOn x a → Acts x a c → Both On x → Sent c
+  pub act_sends : (x : PairEnds) (a : Act) (c : Course) → MayOn x a → Acts x a c → Both On x → Sent c
   unfolding going_on
   act_sends _ _ _ may (made x) h = record {
     both = record {

@@ -1,23 +1,23 @@
 -- Two nodes that talk begin to be still, and what they have in the air shows what they have at present.
-use Rattle.std.specs.Prelude.{◌||◌, slice_get}
-use Rattle.std.proofs.Common.{◌≡◌, ◌∙◌, ℕ, false, Option, Some, None, refl, sym, ap, subst, arith}
-use Rattle.std.proofs.lemmas.Bool.{and_parts}
+use Rattle.std.specs.Prelude.{◌||◌, not, slice_get}
+use Rattle.std.proofs.Common.{◌≡◌, ◌∙◌, ℕ, Bool, true, false, Option, Some, None, refl, sym, ap, subst, arith, eqb-true}
+use Rattle.std.proofs.lemmas.Bool.{and_parts, true≢false}
 use Rattle.tipc_types.specs.LinkStates.{is_up}
 use Rattle.tipc_header.specs.declared.packet.Header.{Header}
 use Rattle.tipc_header.specs.declared.packet.Header.TheVariants as header
 use Rattle.tipc_header.specs.Frames.{frame_of}
 use Rattle.tipc_header.specs.Spelling.{Fields, spelling}
-use Rattle.tipc_link_fsm.specs.Table.{is_last, is_peer, is_reset_reset}
+use Rattle.tipc_link_fsm.specs.Table.{is_held, is_last, is_peer, is_reset_reset}
 use Rattle.tipc_link.specs.Links.{LinkEnd}
-use Rattle.tipc_pair.specs.Facing.{facing, is_up_at}
+use Rattle.tipc_pair.specs.Facing.{facing, in_contact, is_up_at}
 use Rattle.tipc_paired.specs.Paired.{ArePaired, ShowsContact}
 use Rattle.tipc_paired.specs.Views.{Frame, Node, View, epoch_in, es_of, fsm_in, notice_of}
 use Rattle.tipc_paired.proofs.wires.Frames.{es_of-frame, same_packet}
 use Rattle.tipc_paired.proofs.wires.Wires.{map_at}
 use Rattle.tipc_two_nodes.specs.Sights.{AreSeen, Sight, pair_seen}
-use Rattle.tipc_two_nodes.proofs.sights.Known.{nothing_higher_is_known, present_tells_contact}
+use Rattle.tipc_two_nodes.proofs.sights.Known.{contact_tells_present, nothing_higher_is_known, present_tells_contact}
 use Rattle.tipc_two_nodes.proofs.sights.Sights.{ends}
-use Rattle.tipc_settling.specs.Beginnings.{AreUpWithPresent, BeginsStill, HasMoreEpochs, ShowsPresentContact, footing, is_answering}
+use Rattle.tipc_settling.specs.Beginnings.{AreUpWithPresent, BeginsStill, HasMoreEpochs, ShowsPresentContact, footing, is_answering, is_free_at}
 use Rattle.tipc_settling.specs.Stillness.{Footing, IsStillAt, ShowsNumber}
 use Rattle.tipc_settling.proofs.Rows.{peer_named}
 
@@ -29,6 +29,8 @@ record AreOf (own peer : Footing) (v w : Sight) (bearer : ℕ) : Type 0 where
   epoch : own.epoch bearer ≡ epoch_in v.node.contact (v.ends bearer)
   up : own.up bearer ≡ is_up_at (v.ends bearer)
   answers : own.answers bearer ≡ is_answering (peer.epoch bearer) (v.ends bearer)
+  free : own.free bearer ≡ is_free_at (v.ends bearer)
+  alone : peer.alone ≡ not (in_contact (pair_seen w))
   peer_contact : peer.contact ≡ w.node.contact
   peer_epoch : peer.epoch bearer ≡ epoch_in w.node.contact (w.ends bearer)
 
@@ -39,6 +41,10 @@ knows_contact v w bearer e h more is None none knows =
     let same = ((ends v w bearer e h is).peer_fits w.node.contact knows).1 in
     absurd (omega (arith, low, same))
 knows_contact v w bearer e h more is (Some d) there knows = present_tells_contact v w bearer e d h is there knows (more bearer d there)
+
+pub not_held : (b : Bool) → not b ≡ true → b ≡ false
+not_held true is = absurd (true≢false (sym is))
+not_held false is = refl
 
 begun_at : (own peer : Footing) (v w : Sight) (bearer : ℕ) → AreSeen v w → AreUpWithPresent v w → HasMoreEpochs w → AreOf own peer v w bearer → (o : Option LinkEnd) → v.ends bearer ≡ o → IsStillAt own peer v.node.seen bearer (fsm_in o)
 begun_at own peer v w bearer h with_it more of None none = record {
@@ -55,9 +61,13 @@ begun_at own peer v w bearer h with_it more of (Some e) is =
       answers = λ was.
           let both = and_parts (is_peer e.fsm.peer (peer.epoch bearer)) (is_up e.fsm.state || is_reset_reset e.fsm.state) (sym (of.answers ∙ ap (is_answering (peer.epoch bearer)) is) ∙ was) in
           record { knows = peer_named e.fsm.peer (peer.epoch bearer) both.0; heard = both.1 };
+      free = λ was. not_held (is_held e.fsm.state) (sym (of.free ∙ ap is_free_at is) ∙ was);
       no_higher = omega (arith, high, now);
       up = λ up. (let d = with_it bearer e is up in d.2 ∙ ap (λ n. Some n) (sym (now ∙ ap (epoch_in w.node.contact) d.1)));
       contact = λ knows. knows_contact v w bearer e h more is (w.ends bearer) refl (knows ∙ ap (λ n. Some n) now) ∙ sym of.peer_contact;
+      present = λ alone sees epoch knows.
+          let d = contact_tells_present v w bearer epoch e h (not_held (in_contact (pair_seen w)) (sym of.alone ∙ alone)) (sees ∙ of.peer_contact) is knows in
+          sym d.2 ∙ sym (now ∙ ap (epoch_in w.node.contact) d.1);
     }
 
 pub begins_still : BeginsStill
@@ -69,8 +79,9 @@ begins_still v w h with_it more =
       two = omega arith;
       contact = refl;
       seen = (nothing_higher_is_known v w h).seen;
-      near = begun_at own peer v w 0 h with_it more (record { contact = refl; epoch = refl; up = refl; answers = refl; peer_contact = refl; peer_epoch = refl }) (v.ends 0) refl;
-      far = begun_at own peer v w 1 h with_it more (record { contact = refl; epoch = refl; up = refl; answers = refl; peer_contact = refl; peer_epoch = refl }) (v.ends 1) refl;
+      sees = λ was. eqb-true v.node.seen w.node.contact was;
+      near = begun_at own peer v w 0 h with_it more (record { contact = refl; epoch = refl; up = refl; answers = refl; free = refl; alone = refl; peer_contact = refl; peer_epoch = refl }) (v.ends 0) refl;
+      far = begun_at own peer v w 1 h with_it more (record { contact = refl; epoch = refl; up = refl; answers = refl; free = refl; alone = refl; peer_contact = refl; peer_epoch = refl }) (v.ends 1) refl;
     }
 
 -- ---- what is in the air

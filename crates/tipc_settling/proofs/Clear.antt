@@ -1,13 +1,13 @@
 -- What isn't stopped at a node: a link packet of another node that comes on a mended bearer, where the node has a link end to it.
-use Rattle.std.specs.Prelude.{if◌then◌else◌, ◌⊎◌, is_some, slice_index_or}
-use Rattle.std.proofs.Common.{◌≡◌, ◌≤◌, ◌<◌, ◌∙◌, ℕ, true, false, List, None, Some, length, refl, sym, ap, arith, inl, inr}
+use Rattle.std.specs.Prelude.{if◌then◌else◌, is_some, slice_index_or}
+use Rattle.std.proofs.Common.{◌≡◌, ◌≤◌, ◌∙◌, ℕ, true, List, None, Some, length, sym, ap, arith, inl, inr}
 use Rattle.tipc_types.specs.Address.{node_word}
 use Rattle.tipc_types.specs.declared.link_words.Why.TheVariants as why
 use Rattle.tipc_header.specs.declared.frames.FrameKind.TheVariants.{Links}
 use Rattle.tipc_header.specs.Frames.{kind_in}
 use Rattle.tipc_header.specs.Spelling.{Fields, spelling}
 use Rattle.tipc_header.proofs.Again.{again, no_fault}
-use Rattle.tipc_node.specs.Nodes.{NodeState, end_with, is_mended_on, is_other, neighbour_of, stop_by_kind, stop_by_sender, stop_of}
+use Rattle.tipc_node.specs.Nodes.{NodeState, end_with, is_mended_on, is_other, neighbour_of, stop_by_kind, stop_of}
 use Rattle.tipc_node.specs.Turns.{IsFrom}
 use Rattle.tipc_node.proofs.work.Stops.{IsBadSize, IsOpened, by_sender, sender_kind}
 

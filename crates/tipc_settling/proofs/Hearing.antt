@@ -94,7 +94,7 @@ near_heard x e r es er p by shown near is up session traffic =
 heard_arrives : (s : SessionEnd) (by acknowledgement : ℕ) (c : Content) → GoesOn (heard s by acknowledgement c) (arrived s by acknowledgement c)
 heard_arrives s by acknowledgement (Shows next gap probe) = flushes (heard s by acknowledgement (Shows next gap probe))
 heard_arrives s by acknowledgement (Carries number packet) = flushes (heard s by acknowledgement (Carries number packet))
-heard_arrives s by acknowledgement Nothing = record { acked = omega arith; taken = omega arith; shown = omega arith }
+heard_arrives s by acknowledgement Nothing = record { numbered = omega arith; acked = omega arith; taken = omega arith; shown = omega arith }
 
 -- behind the packet that was heard nothing is taken back
 opened_goes : (known : ℕ → ℕ) (y : PairEnds) (outcome : LinkOutcome) (opened : Course) (given : PairOutcome) → HaveRecords known y → OpensKnown known y outcome → OpensInto y outcome opened given → (going_on opened released).changes ≡ []

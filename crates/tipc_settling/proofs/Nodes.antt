@@ -32,7 +32,7 @@ use Rattle.tipc_settling.proofs.Told.{turns_tell_nothing}
 use Rattle.tipc_settling.proofs.Turns.{turns_still}
 
 -- what may come to the node may happen at its pair
-may_come : (peer : Footing) (b : ℕ) (x : PairEnds) (note : EventNote) (bytes : List ℕ) (opening : Opening) → MayComeTo peer b x note bytes → Suits note opening → IsBrought b bytes opening → MayCome peer x opening
+pub may_come : (peer : Footing) (b : ℕ) (x : PairEnds) (note : EventNote) (bytes : List ℕ) (opening : Opening) → MayComeTo peer b x note bytes → Suits note opening → IsBrought b bytes opening → MayCome peer x opening
 may_come peer b x note bytes rests may suits brought = tt
 may_come peer b x note bytes (makes bearer is_mended) may suits brought = tt
 may_come peer b x note bytes (mends bearer) may suits brought = tt

@@ -1,5 +1,5 @@
 -- At a tick an end that is in reset says RESET or ACTIVATE.
-use Rattle.std.specs.Prelude.{◌==◌, if◌then◌else◌}
+use Rattle.std.specs.Prelude.{if◌then◌else◌}
 use Rattle.std.proofs.Common.{◌≡◌, ◌≤◌, ◌∙◌, ℕ, zero, suc, Bool, true, false, List, [], ◌∷◌, ◌++◌, Some, append_assoc, refl, sym, ap, subst, arith}
 use Rattle.std.proofs.lemmas.Bool.{true≢false}
 use Rattle.tipc_types.specs.declared.link_words.BroadcastState.{BroadcastState}
@@ -23,7 +23,7 @@ use Rattle.tipc_pair.proofs.HeldLaws.{tick_quiet}
 use Rattle.tipc_pair.proofs.turns.Moves.{up_silence}
 use Rattle.tipc_paired.specs.Views.{fsm_in}
 use Rattle.tipc_settling.specs.Rises.{SaysNotice, TicksSayNotice, notice_in}
-use Rattle.tipc_settling.specs.Stillness.{Footing, IsStill}
+use Rattle.tipc_settling.specs.Stillness.{AreHeard, Footing, IsStill}
 use Rattle.tipc_settling.proofs.Pairs.{near_still, still_turned}
 use Rattle.tipc_settling.proofs.Rows.{tick_still}
 use Rattle.tipc_settling.proofs.Saying.{tick_far, ticked_states}
@@ -60,8 +60,9 @@ near_says own peer shown x e near h silent mended reset =
     ∙ ap (λ fs. fs ++ (following (with_near x (after e o)) o.change 0).states) (end_says e held shown mended reset)
     ∙ ap (λ fs. (notice_in e.fsm.state e ∷ []) ++ fs) (following_says (with_near x (after e o)) o.change 0 s.up (tick_quiet e.fsm held))
 
-pub ticks_say_notice : TicksSayNotice
-ticks_say_notice own peer shown messages reply x x' frames bearer e zero_is still heard one near mended reset t = by bearer one near
+pub ticked_says : (own peer : Footing) (shown : BroadcastState) (x : PairEnds) (e : LinkEnd) (bearer : ℕ) → x.bearer ≡ 0 → IsStill own peer x → AreHeard x → bearer ≤ 1 → (facing bearer x).near ≡ Some e → e.mended ≡ true
+    → is_in_reset e.fsm.state ≡ true → SaysNotice e (ticked shown x).states
+ticked_says own peer shown x e bearer zero_is still heard one near mended reset = by bearer one near
   where
     y : PairEnds
     y = (tick_near shown x).pair
@@ -78,23 +79,26 @@ ticks_say_notice own peer shown messages reply x x' frames bearer e zero_is stil
     B : List Outgoing
     B = (tick_near shown (turned y)).states
 
-    rest : List Outgoing
-    rest = parts.0 ++ (t.first.course.numbered ++ (t.put_frames ++ (replied reply t.put).states))
+    all : (ticked shown x).states ≡ A ++ (B ++ parts.0)
+    all = parts.1 ∙ append_assoc A B parts.0
 
-    all : frames ≡ A ++ (B ++ rest)
-    all =
-        t.frames_are
-        ∙ ap (λ fs. fs ++ (t.first.course.numbered ++ (t.put_frames ++ (replied reply t.put).states))) (ap (λ (o : Outset). o.course.states) t.happened ∙ parts.1)
-        ∙ append_assoc (A ++ B) parts.0 (t.first.course.numbered ++ (t.put_frames ++ (replied reply t.put).states))
-        ∙ append_assoc A B rest
-
-    by : (bearer : ℕ) → bearer ≤ 1 → (facing bearer x).near ≡ Some e → SaysNotice e frames
+    by : (bearer : ℕ) → bearer ≤ 1 → (facing bearer x).near ≡ Some e → SaysNotice e (ticked shown x).states
     by zero one near =
         let here : x.near ≡ Some e = ap (λ (z : PairEnds). z.near) (sym (facing_near 0 x zero_is)) ∙ near in
-        record { before = []; behind = B ++ rest; frames_are = all ∙ ap (λ fs. fs ++ (B ++ rest)) (near_says own peer shown x e here still heard.near mended reset) }
+        record { before = []; behind = B ++ parts.0; frames_are = all ∙ ap (λ fs. fs ++ (B ++ parts.0)) (near_says own peer shown x e here still heard.near mended reset) }
     by (suc zero) one near =
         let far : x.far ≡ Some e = ap (λ (z : PairEnds). z.far) (sym (facing_near 0 x zero_is)) ∙ sym (facing_one x still.two) ∙ near in
         let there : y.far ≡ Some e = tick_far own peer shown x x.near refl still heard.near ∙ far in
         let few : silence_in y.far ≤ 3 = (let most = heard.far in let same = silence_states own peer x.far y.far ticked_one.1 in omega (arith, most, same)) in
-        record { before = A; behind = rest; frames_are = all ∙ ap (λ fs. A ++ (fs ++ rest)) (near_says own peer shown (turned y) e there (still_turned own peer y ticked_one.0) few mended reset) }
+        record { before = A; behind = parts.0; frames_are = all ∙ ap (λ fs. A ++ (fs ++ parts.0)) (near_says own peer shown (turned y) e there (still_turned own peer y ticked_one.0) few mended reset) }
     by (suc (suc k)) one near = absurd (omega (arith, one))
+
+pub ticks_say_notice : TicksSayNotice
+ticks_say_notice own peer shown messages reply x x' frames bearer e zero_is still heard one near mended reset t =
+    let says = ticked_says own peer shown x e bearer zero_is still heard one near mended reset in
+    let more = t.first.course.numbered ++ (t.put_frames ++ (replied reply t.put).states) in
+    record {
+      before = says.before;
+      behind = says.behind ++ more;
+      frames_are = t.frames_are ∙ ap (λ fs. fs ++ more) (ap (λ (o : Outset). o.course.states) t.happened ∙ says.frames_are) ∙ append_assoc says.before (notice_in e.fsm.state e ∷ says.behind) more;
+    }

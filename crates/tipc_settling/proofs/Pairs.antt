@@ -80,6 +80,7 @@ module _ (own peer : Footing) where
     two = subst (λ n. n ≤ 1) (sym s.bearer) h.two;
     contact = s.contact ∙ h.contact;
     seen = subst (λ n. n ≤ peer.contact) (sym s.seen) h.seen;
+    sees = λ was. s.seen ∙ h.sees was;
     near = subst (λ n. IsStillAt own peer n y.bearer (fsm_in y.near)) (sym s.seen) (subst (λ b. IsStillAt own peer x.seen b (fsm_in y.near)) (sym s.bearer) (subst (IsStillAt own peer x.seen x.bearer) (sym s.near) h.near));
     far = subst (λ n. IsStillAt own peer n (other y.bearer) (fsm_in y.far)) (sym s.seen)
         (subst (λ b. IsStillAt own peer x.seen (other b) (fsm_in y.far)) (sym s.bearer) (subst (IsStillAt own peer x.seen (other x.bearer)) (sym s.far) h.far));
@@ -89,7 +90,7 @@ module _ (own peer : Footing) where
   still_turned x h =
       let two = h.two in
       let back : x.bearer ≡ 1 - (1 - x.bearer) = omega (arith, two) in
-      record { two = omega arith; contact = h.contact; seen = h.seen; near = h.far; far = subst (λ b. IsStillAt own peer x.seen b (fsm_in x.near)) back h.near }
+      record { two = omega arith; contact = h.contact; seen = h.seen; sees = h.sees; near = h.far; far = subst (λ b. IsStillAt own peer x.seen b (fsm_in x.near)) back h.near }
 
   pub still_facing : (bearer : ℕ) (x : PairEnds) → IsStill own peer x → IsStill own peer (facing bearer x)
   unfolding facing
@@ -100,7 +101,7 @@ module _ (own peer : Footing) where
 
   -- with another near end that is so
   pub other_near : (x : PairEnds) (e : LinkEnd) (f : Fsm) → e.fsm ≡ f → IsStillEnd own peer x.seen x.bearer f → IsStill own peer x → IsStill own peer (with_near x e)
-  other_near x e f is still h = record { two = h.two; contact = h.contact; seen = h.seen; near = subst (IsStillEnd own peer x.seen x.bearer) (sym is) still; far = h.far }
+  other_near x e f is still h = record { two = h.two; contact = h.contact; seen = h.seen; sees = h.sees; near = subst (IsStillEnd own peer x.seen x.bearer) (sym is) still; far = h.far }
 
   -- ---- what may be done
 
@@ -160,16 +161,18 @@ module _ (own peer : Footing) where
     epoch = is ∙ sym none.epoch;
     lasts = λ was. absurd (true≢false (sym was ∙ none.down));
     answers = λ was. absurd (true≢false (sym was ∙ none.unanswered));
+    free = λ is. refl;
     no_higher = omega arith;
     up = λ up. absurd (let wrong : ⊥ = cc in wrong);
     contact = λ knows. absurd (let wrong : ⊥ = cc in wrong);
+    present = λ alone met epoch is. absurd (let wrong : ⊥ = cc in wrong);
   }
 
   pub act_still : (x : PairEnds) (a : Act) (c : Course) → May x a → Acts x a c → IsStill own peer x → IsStill own peer c.pair
   unfolding going_on
   act_still _ _ _ may (made x) h =
       let none : HasNoEnd own x.bearer = subst (λ o. IsStillAt own peer x.seen x.bearer (fsm_in o)) may h.near in
-      record { two = h.two; contact = h.contact; seen = h.seen; near = made_still x.seen x.bearer x.contact h.contact none; far = h.far }
+      record { two = h.two; contact = h.contact; seen = h.seen; sees = h.sees; near = made_still x.seen x.bearer x.contact h.contact none; far = h.far }
   act_still _ _ _ may (mended x e near) h = same_still x (with_near x (mended_end e)) (same_near x e (mended_end e) near refl) h
   act_still _ _ _ may (moved x a e o e' states numbered epoch near step) h =
       let s = step_still x a e o e' states numbered epoch may (near_still x e near h) step in
@@ -183,6 +186,7 @@ module _ (own peer : Footing) where
         two = h.two;
         contact = h.contact;
         seen = (let is = may.0 in omega (arith, is));
+        sees = λ was. may.0;
         near = forgot_at x.seen number x.bearer x.near may.0 may.1 h.near;
         far = forgot_at x.seen number (other x.bearer) x.far may.0 may.1 h.far;
       })

@@ -1,6 +1,6 @@
 -- An end that may go up does so by what shows the present: a RESET makes it answer, an ACTIVATE takes it up, and so does a STATE where it answers.
-use Rattle.std.specs.Prelude.{◌==◌, ◌&&◌, ◌||◌, ◌-◌, nat_lt, not, if◌then◌else◌}
-use Rattle.std.proofs.Common.{◌≡◌, ◌≢◌, ◌≤◌, ◌<◌, ◌∙◌, ℕ, Bool, true, false, List, Option, Some, None, option_map, refl, sym, ap, subst, arith}
+use Rattle.std.specs.Prelude.{◌==◌, ◌&&◌, ◌||◌, nat_lt, not, if◌then◌else◌}
+use Rattle.std.proofs.Common.{◌≡◌, ◌≤◌, ◌<◌, ◌∙◌, ℕ, Bool, true, false, List, Option, Some, None, option_map, refl, sym, ap, subst, arith, eqb-true}
 use Rattle.std.proofs.lemmas.Bool.{and_parts, true≢false}
 use Rattle.std.proofs.lemmas.Bool.Decides.{nat_tests}
 use Rattle.tipc_types.specs.LinkStates.{is_up}
@@ -16,11 +16,10 @@ use Rattle.tipc_header.specs.Spelling.{Fields}
 use Rattle.tipc_link_fsm.specs.Table.{Fsm, Outcome, forget_peer, is_held, is_in_reset, is_last, is_peer, is_reset_reset, is_session, on_activate, on_reset, on_traffic}
 use Rattle.tipc_link_fsm.proofs.Moves.{cases_on}
 use Rattle.tipc_link.specs.Links.{LinkEnd, after, arrival_end, is_down, is_traffic, outcome_of}
-use Rattle.tipc_pair.specs.Changeovers.{contact_ends, following, forgetting, forgotten, released, risen}
+use Rattle.tipc_pair.specs.Changeovers.{contact_ends, following, forgetting, forgotten, risen}
 use Rattle.tipc_pair.specs.Courses.{Course, going_on, rests as nothing}
 use Rattle.tipc_pair.specs.Facing.{PairEnds, facing, in_contact, is_up_at, other, with_near}
 use Rattle.tipc_pair.specs.PairArrivals.{Heard, activate_higher, activates, behind, hears as heard_by, met, met_at, met_near, passing, reset_change, reset_given, reset_near}
-use Rattle.tipc_pair.specs.PairCalls.{stepped}
 use Rattle.tipc_pair.specs.PairTurns.{Outset, PairTurn, Reply}
 use Rattle.tipc_pair.specs.PairTurns.Opening.{hears}
 use Rattle.tipc_pair.proofs.EndSteps.{fsm_after, fsm_arrived}
@@ -60,10 +59,10 @@ and_false false = refl
 elsewhere : (b : ℕ) → b ≤ 1 → (other b == b) ≡ false
 elsewhere b two = grind (arith, nat_tests, two)
 
-same_number : (n : ℕ) → (n == n) ≡ true
+pub same_number : (n : ℕ) → (n == n) ≡ true
 same_number n = grind (arith, nat_tests)
 
-not_less : (a b : ℕ) → b ≤ a → nat_lt a b ≡ false
+pub not_less : (a b : ℕ) → b ≤ a → nat_lt a b ≡ false
 not_less a b most = grind (arith, nat_tests, most)
 
 module _ (own peer : Footing) (seen bearer : ℕ) where
@@ -90,6 +89,16 @@ module _ (own peer : Footing) (seen bearer : ℕ) where
           absurd (let low : nat_lt es f.highest ≡ false = not_less es f.highest (let most = h.no_higher in omega (arith, most, same)) in
           true≢false (sym passed ∙ ap (λ b. b || (is_up f.state && is_peer f.peer es)) low ∙ ap (λ b. b && is_peer f.peer es) down))
 
+  -- the row of an ACTIVATE at an end in reset fits
+  pub activate_fits : (es er : ℕ) (f : Fsm) → Stay f → es ≡ peer.epoch bearer → er ≡ own.epoch bearer → is_held f.state ≡ false → is_last f.own ≡ false → is_up f.state ≡ false
+      → ((is_in_reset f.state && not (is_last f.own)) && ((er == f.own) && not (nat_lt es f.highest))) ≡ true
+  activate_fits es er f h theirs ours free more down =
+      let low : nat_lt es f.highest ≡ false = not_less es f.highest (let most = h.no_higher in omega (arith, most, theirs)) in
+      let same : (er == f.own) ≡ true = ap (λ n. n == f.own) (ours ∙ sym h.epoch) ∙ same_number f.own in
+      ap (λ b. (b && not (is_last f.own)) && ((er == f.own) && not (nat_lt es f.highest))) (is_free f.state free down)
+      ∙ ap (λ b. not b && ((er == f.own) && not (nat_lt es f.highest))) more
+      ∙ ap (λ b. b && not (nat_lt es f.highest)) same ∙ ap (λ b. not b) low
+
   pub activate_rises : (es er : ℕ) (f : Fsm) → Stay f → es ≡ peer.epoch bearer → er ≡ own.epoch bearer → is_held f.state ≡ false → is_last f.own ≡ false → is_up (on_activate f es er).after.state ≡ true
   unfolding on_activate
   activate_rises es er f h theirs ours free more =
@@ -99,34 +108,31 @@ module _ (own peer : Footing) (seen bearer : ℕ) where
     where
       by : (u : Bool) → is_up f.state ≡ u → ((is_in_reset f.state && not (is_last f.own)) && ((er == f.own) && not (nat_lt es f.highest))) ≡ false → is_up f.state ≡ true
       by true up apart = up
-      by false down apart =
+      by false down apart = absurd (true≢false (sym (activate_fits es er f h theirs ours free more down) ∙ apart))
+
+  -- what shows both present epochs is of the session
+  pub traffic_session : (es er : ℕ) (f : Fsm) → Stay f → es ≡ peer.epoch bearer → er ≡ own.epoch bearer → AnswersTo (peer.epoch bearer) f → is_session f es er ≡ true
+  traffic_session es er f h theirs ours answers =
+      ap (λ b. b && (er == f.own)) (peer_known f.peer es (answers.knows ∙ ap Some (sym theirs))) ∙ (ap (λ n. n == f.own) (ours ∙ sym h.epoch) ∙ same_number f.own)
+
+  -- an end that answers, and isn't taken up by it, is up
+  pub traffic_up : (es er : ℕ) (f : Fsm) → Stay f → es ≡ peer.epoch bearer → er ≡ own.epoch bearer → AnswersTo (peer.epoch bearer) f → is_last f.own ≡ false → (is_session f es er && (is_reset_reset f.state && not (is_last f.own))) ≡ false → is_up f.state ≡ true
+  traffic_up es er f h theirs ours answers more apart = by (is_up f.state) refl
+    where
+      by : (u : Bool) → is_up f.state ≡ u → is_up f.state ≡ true
+      by true up = up
+      by false down =
           absurd (
-          let low : nat_lt es f.highest ≡ false = not_less es f.highest (let most = h.no_higher in omega (arith, most, theirs)) in
-          let same : (er == f.own) ≡ true = ap (λ n. n == f.own) (ours ∙ sym h.epoch) ∙ same_number f.own in
-          let all : ((is_in_reset f.state && not (is_last f.own)) && ((er == f.own) && not (nat_lt es f.highest))) ≡ true =
-          ap (λ b. (b && not (is_last f.own)) && ((er == f.own) && not (nat_lt es f.highest))) (is_free f.state free down)
-          ∙ ap (λ b. not b && ((er == f.own) && not (nat_lt es f.highest))) more
-          ∙ ap (λ b. b && not (nat_lt es f.highest)) same ∙ ap (λ b. not b) low in
+          let reset : is_reset_reset f.state ≡ true = ap (λ b. b || is_reset_reset f.state) (sym down) ∙ answers.heard in
+          let all : (is_session f es er && (is_reset_reset f.state && not (is_last f.own))) ≡ true =
+          ap (λ b. b && (is_reset_reset f.state && not (is_last f.own))) (traffic_session es er f h theirs ours answers) ∙ ap (λ b. b && not (is_last f.own)) reset ∙ ap (λ b. not b) more in
           true≢false (sym all ∙ apart))
 
   pub traffic_rises : (es er : ℕ) (f : Fsm) → Stay f → es ≡ peer.epoch bearer → er ≡ own.epoch bearer → AnswersTo (peer.epoch bearer) f → is_last f.own ≡ false → is_up (on_traffic f es er).after.state ≡ true
   unfolding on_traffic
   traffic_rises es er f h theirs ours answers more =
       cases_on (λ o. is_up o.after.state ≡ true) (is_session f es er && (is_reset_reset f.state && not (is_last f.own))) _ _ (λ fits. refl) (λ apart.
-      cases_on (λ o. is_up o.after.state ≡ true) (is_session f es er && is_up f.state) _ _ (λ here. refl) (λ _. by (is_up f.state) refl apart))
-    where
-      session : is_session f es er ≡ true
-      session =
-          ap (λ b. b && (er == f.own)) (peer_known f.peer es (answers.knows ∙ ap Some (sym theirs))) ∙ (ap (λ n. n == f.own) (ours ∙ sym h.epoch) ∙ same_number f.own)
-
-      by : (u : Bool) → is_up f.state ≡ u → (is_session f es er && (is_reset_reset f.state && not (is_last f.own))) ≡ false → is_up f.state ≡ true
-      by true up apart = up
-      by false down apart =
-          absurd (
-          let reset : is_reset_reset f.state ≡ true = ap (λ b. b || is_reset_reset f.state) (sym down) ∙ answers.heard in
-          let all : (is_session f es er && (is_reset_reset f.state && not (is_last f.own))) ≡ true =
-          ap (λ b. b && (is_reset_reset f.state && not (is_last f.own))) session ∙ ap (λ b. b && not (is_last f.own)) reset ∙ ap (λ b. not b) more in
-          true≢false (sym all ∙ apart))
+      cases_on (λ o. is_up o.after.state ≡ true) (is_session f es er && is_up f.state) _ _ (λ here. refl) (λ _. traffic_up es er f h theirs ours answers more apart))
 
 -- ---- the near link
 
@@ -179,9 +185,12 @@ footed own peer y = record {
   epoch = own.epoch;
   up = λ b. (b == y.bearer) && is_up_at y.near;
   answers = λ b. (b == y.bearer) && is_answering (peer.epoch y.bearer) y.near;
+  free = own.free;
+  sees = y.seen == peer.contact;
+  alone = own.alone;
 }
 
-answering_so : (epoch : ℕ) (e : LinkEnd) → is_answering epoch (Some e) ≡ true → AnswersTo epoch e.fsm
+pub answering_so : (epoch : ℕ) (e : LinkEnd) → is_answering epoch (Some e) ≡ true → AnswersTo epoch e.fsm
 answering_so epoch e is =
     let both = and_parts (is_peer e.fsm.peer epoch) (is_up e.fsm.state || is_reset_reset e.fsm.state) is in record { knows = peer_named e.fsm.peer epoch both.0; heard = both.1 }
 
@@ -195,9 +204,11 @@ footed_near own peer y (Some e) near h = record {
   epoch = h.epoch;
   lasts = λ was. sym (ap is_up_at near) ∙ (and_parts (y.bearer == y.bearer) (is_up_at y.near) was).1;
   answers = λ was. answering_so (peer.epoch y.bearer) e (sym (ap (is_answering (peer.epoch y.bearer)) near) ∙ (and_parts (y.bearer == y.bearer) (is_answering (peer.epoch y.bearer) y.near) was).1);
+  free = h.free;
   no_higher = h.no_higher;
   up = h.up;
   contact = h.contact;
+  present = h.present;
 }
 
 footed_far : (own peer : Footing) (y : PairEnds) (o : Option LinkEnd) → y.bearer ≤ 1 → IsStillAt own peer y.seen (other y.bearer) (fsm_in o) → IsStillAt (footed own peer y) peer y.seen (other y.bearer) (fsm_in o)
@@ -206,16 +217,18 @@ footed_far own peer y (Some e) two h = record {
   epoch = h.epoch;
   lasts = λ was. absurd (true≢false (sym (and_parts (other y.bearer == y.bearer) (is_up_at y.near) was).0 ∙ elsewhere y.bearer two));
   answers = λ was. absurd (true≢false (sym (and_parts (other y.bearer == y.bearer) (is_answering (peer.epoch y.bearer) y.near) was).0 ∙ elsewhere y.bearer two));
+  free = h.free;
   no_higher = h.no_higher;
   up = h.up;
   contact = h.contact;
+  present = h.present;
 }
 
 footed_still : (own peer : Footing) (y : PairEnds) → IsStill own peer y → IsStill (footed own peer y) peer y
-footed_still own peer y h = record { two = h.two; contact = h.contact; seen = h.seen; near = footed_near own peer y y.near refl h.near; far = footed_far own peer y y.far h.two h.far }
+footed_still own peer y h = record { two = h.two; contact = h.contact; seen = h.seen; sees = λ was. eqb-true y.seen peer.contact was; near = footed_near own peer y y.near refl h.near; far = footed_far own peer y y.far h.two h.far }
 
 -- what the rest of a turn keeps of the near end behind what was heard
-behind_heard : (own peer : Footing) (x x' : PairEnds) (bearer es er : ℕ) (p : Fields) (by : ℕ) (shown : BroadcastState) (messages : List (List ℕ)) (reply : Option Reply) (frames : List Outgoing) → x.bearer ≡ 0 → bearer ≤ 1
+pub behind_heard : (own peer : Footing) (x x' : PairEnds) (bearer es er : ℕ) (p : Fields) (by : ℕ) (shown : BroadcastState) (messages : List (List ℕ)) (reply : Option Reply) (frames : List Outgoing) → x.bearer ≡ 0 → bearer ≤ 1
     → IsStill own peer x → ShowsPresent peer bearer es p → PairTurn x (hears bearer es er p by shown) messages reply x' frames
     → IsStill (footed own peer (heard_by p.header es er p by shown (facing bearer x)).course.pair) peer x'
 unfolding going_on
@@ -242,7 +255,11 @@ forgot_free : (f : Fsm) → is_held (forget_peer f).after.state ≡ false
 unfolding forget_peer
 forgot_free f = cases_on (λ (o : Outcome). is_held o.after.state ≡ false) (is_up f.state) _ _ (λ up. refl) (λ down. refl)
 
--- a pair that may go up, which has seen the peer's contact number
+forgot_down : (f : Fsm) → is_up (forget_peer f).after.state ≡ false
+unfolding forget_peer
+forgot_down f = cases_on (λ (o : Outcome). is_up o.after.state ≡ false) (is_up f.state) _ _ (λ up. refl) (λ down. refl)
+
+-- a pair whose end is in reset, and may go up, which has seen the peer's contact number
 pub record Ready (own peer : Footing) (z y : PairEnds) : Type 0 where
   pub still : IsStill own peer y
   pub sees : y.seen ≡ peer.contact
@@ -250,12 +267,21 @@ pub record Ready (own peer : Footing) (z y : PairEnds) : Type 0 where
   pub end : LinkEnd
   pub near : y.near ≡ Some end
   pub free : is_held end.fsm.state ≡ false
+  pub down : is_up end.fsm.state ≡ false
   pub more : is_last end.fsm.own ≡ false
 
--- by a higher contact number, which is the peer's present one, it is so
-risen_ready : (own peer : Footing) (z : PairEnds) (e : LinkEnd) (number : ℕ) → IsStill own peer z → z.near ≡ Some e → is_last e.fsm.own ≡ false → number ≡ peer.contact → (number == z.seen) ≡ false
-    → (in_contact z ≡ false) × Ready own peer z (risen z number).pair
-risen_ready own peer z e number h near more is differs = (apart, subst (λ (c : Course). Ready own peer z c.pair) (sym rises) ready)
+-- a pair to which the peer's present contact number, a higher one, was shown: there was no contact, and it has seen that number
+pub record Risen (own peer : Footing) (z : PairEnds) (number : ℕ) : Type 0 where
+  pub apart : in_contact z ≡ false
+  pub rises : risen z number ≡ nothing (forgotten z number)
+  pub still : IsStill own peer (forgotten z number)
+
+pub risen_still : (own peer : Footing) (z : PairEnds) (number : ℕ) → IsStill own peer z → number ≡ peer.contact → (number == z.seen) ≡ false → Risen own peer z number
+risen_still own peer z number h is differs = record {
+  apart = apart;
+  rises = rises;
+  still = subst (λ (c : Course). IsStill own peer c.pair) rises (act_still own peer z (counting number) (risen z number) (is, unseen) (raised z number) h);
+}
   where
     unseen : z.seen ≡ peer.contact → ⊥
     unseen sees = (let same : (number == z.seen) ≡ true = ap (λ n. n == z.seen) (is ∙ sym sees) ∙ same_number z.seen in true≢false (sym same ∙ differs))
@@ -266,21 +292,27 @@ risen_ready own peer z e number h near more is differs = (apart, subst (λ (c : 
     rises : risen z number ≡ nothing (forgotten z number)
     rises = ap (λ b. if b then contact_ends (record z { seen = number }) (z.contact, z.seen) number else nothing (forgotten z number)) apart
 
-    after_still : IsStill own peer (forgotten z number)
-    after_still = subst (λ (c : Course). IsStill own peer c.pair) rises (act_still own peer z (counting number) (risen z number) (is, unseen) (raised z number) h)
+-- and where its end was made, that is ready
+pub risen_ready : (own peer : Footing) (z : PairEnds) (e : LinkEnd) (number : ℕ) → IsStill own peer z → z.near ≡ Some e → is_last e.fsm.own ≡ false → number ≡ peer.contact → (number == z.seen) ≡ false
+    → (in_contact z ≡ false) × Ready own peer z (risen z number).pair
+risen_ready own peer z e number h near more is differs = (r.apart, subst (λ (c : Course). Ready own peer z c.pair) (sym r.rises) ready)
+  where
+    r : Risen own peer z number
+    r = risen_still own peer z number h is differs
 
     now : (forgotten z number).near ≡ Some (forgetting number e)
     now = ap (option_map (forgetting number)) near
 
     ready : Ready own peer z (forgotten z number)
     ready = record {
-      still = after_still;
+      still = r.still;
       sees = is;
       bearer = refl;
       end = forgetting number e;
       near = now;
       free = forgot_free e.fsm;
-      more = ap is_last (let then_is = near_still own peer (forgotten z number) (forgetting number e) now after_still in let before_is = near_still own peer z e near h in then_is.epoch ∙ sym before_is.epoch) ∙ more;
+      down = forgot_down e.fsm;
+      more = ap is_last (let then_is = near_still own peer (forgotten z number) (forgetting number e) now r.still in let before_is = near_still own peer z e near h in then_is.epoch ∙ sym before_is.epoch) ∙ more;
     }
 
 -- ---- what is heard
@@ -333,7 +365,7 @@ module _ (own peer : Footing) where
       (activate_met es er p said by shown y r.end is r.still r.near r.sees r.free r.more (theirs ∙ ap (λ b. peer.epoch b) (sym r.bearer)) (ours ∙ ap (λ b. own.epoch b) (sym r.bearer)))))
 
   -- a STATE or a numbered packet meets an end that answers
-  traffic_outcome : (h : Header) (f : Fsm) (es er : ℕ) (held : Bool) → is_traffic h ≡ true → outcome_of f h es er held ≡ on_traffic f es er
+  pub traffic_outcome : (h : Header) (f : Fsm) (es er : ℕ) (held : Bool) → is_traffic h ≡ true → outcome_of f h es er held ≡ on_traffic f es er
   traffic_outcome (header.Reset said) f es er held is = absurd (true≢false (sym is))
   traffic_outcome (header.Activate said) f es er held is = absurd (true≢false (sym is))
   traffic_outcome (header.Discovery said) f es er held is = absurd (true≢false (sym is))
@@ -402,7 +434,7 @@ answers_then own peer y x' bearer one on rises h =
         record { end = e; there = near; answers = subst (λ b. AnswersTo (peer.epoch b) e.fsm) here (end.answers was) })
 
 -- the pair that heard is seen from the link that heard
-heard_bearer : (own peer : Footing) (x : PairEnds) (bearer es er : ℕ) (p : Fields) (by : ℕ) (shown : BroadcastState) → bearer ≤ 1 → IsStill own peer x → ShowsPresent peer bearer es p
+pub heard_bearer : (own peer : Footing) (x : PairEnds) (bearer es er : ℕ) (p : Fields) (by : ℕ) (shown : BroadcastState) → bearer ≤ 1 → IsStill own peer x → ShowsPresent peer bearer es p
     → (heard_by p.header es er p by shown (facing bearer x)).course.pair.bearer ≡ bearer
 heard_bearer own peer x bearer es er p by shown one h shows =
     let z = facing bearer x in

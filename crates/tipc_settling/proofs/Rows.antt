@@ -33,6 +33,14 @@ held_deaf WorkingUnknown is = absurd cc
 unheard_up : (f : Fsm) → is_up (unheard f).state ≡ true
 unheard_up f = elim (nat_le 1 f.silent) as (λ b. is_up (if b then WorkingUnknown else WorkingWorking) ≡ true) [ true ↦ refl | false ↦ refl ]
 
+-- an end that is up isn't held
+up_free : (st : LinkState) → is_up st ≡ true → is_held st ≡ false
+up_free WorkingWorking up = refl
+up_free WorkingUnknown up = refl
+up_free ResetUnknown up = absurd cc
+up_free ResetReset up = absurd cc
+up_free Held up = absurd cc
+
 -- by a call whose frame shows no epochs no link goes up
 pub shown_quiet : (f : Fsm) (o : Outcome) → Moves f None o → is_going_up o.change ≡ false
 shown_quiet f o (still_moves own same quiet) = quiet
@@ -56,9 +64,11 @@ module _ (own peer : Footing) (seen bearer : ℕ) where
     epoch = same ∙ h.epoch;
     lasts = λ is. up;
     answers = λ is. record { knows = knows ∙ (h.answers is).knows; heard = ap (λ b. b || is_reset_reset g.state) up };
+    free = λ is. up_free g.state up;
     no_higher = subst (λ n. n ≤ peer.epoch bearer) (sym highest) h.no_higher;
     up = λ is. knows ∙ h.up was;
     contact = λ is. h.contact (sym knows ∙ is);
+    present = λ alone sees epoch is. h.present alone sees epoch (sym knows ∙ is);
   }
 
   pub reset_still : (es : ℕ) (held : Bool) (f : Fsm) → Still f → es ≡ peer.epoch bearer → seen ≡ peer.contact → Stays (on_reset f es held)
@@ -75,9 +85,11 @@ module _ (own peer : Footing) (seen bearer : ℕ) where
           epoch = h.epoch;
           lasts = λ was. not_up f h down was;
           answers = λ is. record { knows = ap Some same; heard = refl };
+          free = λ is. refl;
           no_higher = omega (arith, same);
           up = λ is. absurd (let wrong : ⊥ = cc in wrong);
           contact = λ is. sees;
+          present = λ alone met epoch is. (let last : es ≡ epoch = cc in sym last ∙ same);
         };
         up = refl;
       })))
@@ -92,9 +104,11 @@ module _ (own peer : Footing) (seen bearer : ℕ) where
           epoch = h.epoch;
           lasts = λ was. refl;
           answers = λ is. record { knows = ap Some same; heard = refl };
+          free = λ is. refl;
           no_higher = omega (arith, same);
           up = λ is. ap Some same;
           contact = λ is. sees;
+          present = λ alone met epoch is. (let last : es ≡ epoch = cc in sym last ∙ same);
         };
         up = refl;
       })
@@ -113,9 +127,11 @@ module _ (own peer : Footing) (seen bearer : ℕ) where
           epoch = h.epoch;
           lasts = λ was. refl;
           answers = λ is. record { knows = knows; heard = refl };
+          free = λ is. refl;
           no_higher = h.no_higher;
           up = λ is. knows;
           contact = h.contact;
+          present = h.present;
         };
         up = refl;
       })
@@ -157,9 +173,11 @@ module _ (own peer : Footing) (seen bearer : ℕ) where
           epoch = h.epoch;
           lasts = λ was. not_up f h (is_up_held f.state held) was;
           answers = λ was. absurd (true≢false (sym ((h.answers was).heard) ∙ held_deaf f.state held));
+          free = λ is. refl;
           no_higher = h.no_higher;
           up = λ is. absurd (let wrong : ⊥ = cc in wrong);
           contact = h.contact;
+          present = h.present;
         };
         up = refl;
       })
@@ -174,9 +192,11 @@ module _ (own peer : Footing) (seen bearer : ℕ) where
           epoch = h.epoch;
           lasts = λ was. not_up f h down was;
           answers = λ was. absurd (unseen (h.contact (h.answers was).knows));
+          free = λ is. refl;
           no_higher = h.no_higher;
           up = λ is. absurd (let wrong : ⊥ = cc in wrong);
           contact = λ is. refl;
+          present = λ alone met epoch is. absurd (let wrong : ⊥ = cc in wrong);
         };
         up = refl;
       })

@@ -42,17 +42,19 @@ use Rattle.tipc_settling.proofs.Packets.{forget_stays, moved_down, none_behind, 
 -- ---- sessions
 
 stays : (s : SessionEnd) → StaysOn s s
-stays s = record { own = refl; peer = refl; bearer = refl; epoch = refl; peer_epoch = refl; record_epoch = refl; goes = record { acked = omega arith; taken = omega arith; shown = omega arith } }
+stays s = record { own = refl; peer = refl; bearer = refl; epoch = refl; peer_epoch = refl; record_epoch = refl; goes = record { numbered = omega arith; acked = omega arith; taken = omega arith; shown = omega arith } }
 
 pub goes_then : (s t u : SessionEnd) → GoesOn s t → GoesOn t u → GoesOn s u
 goes_then s t u h k =
+    let numbered = h.numbered in
     let acked = h.acked in
     let taken = h.taken in
     let shown = h.shown in
+    let numbered_then = k.numbered in
     let acked_then = k.acked in
     let taken_then = k.taken in
     let shown_then = k.shown in
-    record { acked = omega (arith, acked, acked_then); taken = omega (arith, taken, taken_then); shown = omega (arith, shown, shown_then) }
+    record { numbered = omega (arith, numbered, numbered_then); acked = omega (arith, acked, acked_then); taken = omega (arith, taken, taken_then); shown = omega (arith, shown, shown_then) }
 
 pub stays_then : (s t u : SessionEnd) → StaysOn s t → StaysOn t u → StaysOn s u
 stays_then s t u h k = record {
@@ -89,7 +91,7 @@ arrived_stays s by acknowledgement (Carries number packet) =
 arrived_stays s by acknowledgement Nothing = stays s
 
 answer_stays : (s : SessionEnd) (taken : ℕ) (asks : Bool) → StaysOn s (answered (with_broadcast s taken asks))
-answer_stays s taken asks = record { own = refl; peer = refl; bearer = refl; epoch = refl; peer_epoch = refl; record_epoch = refl; goes = record { acked = omega arith; taken = omega arith; shown = omega arith } }
+answer_stays s taken asks = record { own = refl; peer = refl; bearer = refl; epoch = refl; peer_epoch = refl; record_epoch = refl; goes = record { numbered = omega arith; acked = omega arith; taken = omega arith; shown = omega arith } }
 
 put_stays : (s t : SessionEnd) (pieces : List (List ℕ)) → IsPut s pieces t → StaysOn s (flushed t)
 put_stays s t pieces (joins packets packet may) =
@@ -343,7 +345,7 @@ named_stays : (s : SessionEnd) (epoch : ℕ) → epoch ≤ s.record_epoch → na
 named_stays s epoch known = (let no : nat_lt s.record_epoch epoch ≡ false = grind (arith, nat_tests, known) in ap (λ b. if b then unheard_record epoch else receiving_record s) no)
 
 record_stays : (s : SessionEnd) → StaysOn s (with_record s (receiving_record s))
-record_stays s = record { own = refl; peer = refl; bearer = refl; epoch = refl; peer_epoch = refl; record_epoch = refl; goes = record { acked = omega arith; taken = omega arith; shown = omega arith } }
+record_stays s = record { own = refl; peer = refl; bearer = refl; epoch = refl; peer_epoch = refl; record_epoch = refl; goes = record { numbered = omega arith; acked = omega arith; taken = omega arith; shown = omega arith } }
 
 tunnelled_epoch : (s : SessionEnd) (epoch : ℕ) (t : Taken) → (tunnelled (receiving_record s) epoch t).epoch ≡ s.record_epoch
 tunnelled_epoch s epoch t = elim (is_next (receiving_record s) epoch t) as (λ b. (if b then advanced_by (receiving_record s) t else receiving_record s).epoch ≡ s.record_epoch) [ true ↦ refl | false ↦ refl ]

@@ -259,10 +259,10 @@ unfolding states_all
 in_states parts k d o is there = in_all parts k d o is there
 
 -- the part of a neighbour in a calm tick
-record OwnPart (n n' : NodeState) (frames : List Outgoing) (peer : ℕ) (x : Neighbour) : Type 0 where
-  quiet : (ticked (shown_of n.casting (node_word peer)) x.pair).changes ≡ []
-  then_is : neighbour_of n' peer ≡ Some (done upkeep.Tick (shown_of n.casting (node_word peer)) x).after
-  sent : (o : Outgoing) → Contains (done upkeep.Tick (shown_of n.casting (node_word peer)) x).states o → Contains frames o
+pub record OwnPart (n n' : NodeState) (frames : List Outgoing) (peer : ℕ) (x : Neighbour) : Type 0 where
+  pub quiet : (ticked (shown_of n.casting (node_word peer)) x.pair).changes ≡ []
+  pub then_is : neighbour_of n' peer ≡ Some (done upkeep.Tick (shown_of n.casting (node_word peer)) x).after
+  pub sent : (o : Outgoing) → Contains (done upkeep.Tick (shown_of n.casting (node_word peer)) x).states o → Contains frames o
 
 parts_at : (n : NodeState) → count_by is_change (entries_all 0 (parts_of upkeep.Tick n)) ≡ 0 → (peer : ℕ) (x : Neighbour) → neighbour_of n peer ≡ Some x
     → (slice_index_or (parts_of upkeep.Tick n) peer None ≡ Some (done upkeep.Tick (shown_of n.casting (node_word peer)) x)) × (changes_at (slice_index_or (parts_of upkeep.Tick n) peer None) ≡ [])
@@ -271,7 +271,7 @@ parts_at n none peer x is =
     let part = calm_part 0 n.casting n.neighbours none peer in
     (part.0 ∙ (ap (λ k. part_at upkeep.Tick k n.casting (neighbour_of n peer)) (zero-add peer) ∙ ap (part_at upkeep.Tick peer n.casting) is), part.1)
 
-own_part : (n n' : NodeState) (by : By) (frames : List Outgoing) (answered : Answer) → Performs n by Tick n' frames answered → CallTurn n n' by Tick [] (kept_answer answered) frames → IsCalm n n'
+pub own_part : (n n' : NodeState) (by : By) (frames : List Outgoing) (answered : Answer) → Performs n by Tick n' frames answered → CallTurn n n' by Tick [] (kept_answer answered) frames → IsCalm n n'
     → (peer : ℕ) (x : Neighbour) → neighbour_of n peer ≡ Some x → OwnPart n n' frames peer x
 own_part n n' by frames answered h turn calm peer x is =
     let parts = parts_of upkeep.Tick n in

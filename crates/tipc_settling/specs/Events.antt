@@ -1,5 +1,6 @@
 -- What each event of a node does while nothing goes down between it and another one.
-use Rattle.std.specs.Prelude.{◌≡◌, ◌≤◌, ◌+◌, ℕ, true, All, List, [], None, count_by, filter}
+use Rattle.std.specs.Prelude.{◌≡◌, ◌≤◌, ◌+◌, ℕ, true, All, List, [], Option, None, count_by, filter}
+use Rattle.tipc_types.specs.declared.link_words.BroadcastState.{BroadcastState}
 use Rattle.tipc_types.specs.declared.node_calls.Answer.TheVariants as answer
 use Rattle.tipc_types.specs.declared.node_calls.Arrival.{Arrival}
 use Rattle.tipc_types.specs.declared.node_calls.By.{By}
@@ -12,6 +13,8 @@ use Rattle.tipc_header.specs.Spelling.{Fields}
 use Rattle.tipc_journal.specs.Steps.{NodeStep}
 use Rattle.tipc_pair.specs.Facing.{facing, is_up_at}
 use Rattle.tipc_pair.specs.LinkReadings.{silence_in}
+use Rattle.tipc_pair.specs.PairTurns.{PairTurn, Reply}
+use Rattle.tipc_pair.specs.PairTurns.Opening.{hears}
 use Rattle.tipc_paired.specs.Views.{es_of}
 use Rattle.tipc_two_nodes.specs.Sights.{AreSeen, Sight, pair_seen}
 use Rattle.tipc_node.specs.Arrivals.{Arrives}
@@ -99,3 +102,18 @@ ArrivalsSendUnderPresent = (v w : Sight) (own peer : Footing) (n n' : NodeState)
     → CallTurn n n' by (Arrive bearer number) bytes (answer.Arrived answered) frames → AreSeen v w → pair_seen v ≡ pair_with n b
     → (stop_of n bearer bytes ≡ None → MayComeTo peer b (pair_with n b) (Arrive bearer number) bytes) → IsStill own peer (pair_with n b)
     → All (λ (o : Outgoing). is_of_link o.frame ≡ true → es_of o.frame ≡ own.epoch o.bearer) (frames_to b frames)
+
+-- the turn of the pair to node b in which it heard this packet, by the arrival of that number
+pub record TurnHears (n n' : NodeState) (b bearer es er : ℕ) (p : Fields) (number : ℕ) : Type 0 where
+  pub one : bearer ≤ 1
+  pub shown : BroadcastState
+  pub messages : List (List ℕ)
+  pub reply : Option Reply
+  pub frames : List Outgoing
+  pub turn : PairTurn (pair_with n b) (hears bearer es er p number shown) messages reply (pair_with n' b) frames
+
+-- The arrival of a link packet of node b that isn't stopped is such a turn, whatever the pair makes of it.
+abbrev pub ArrivalsHear : Type 0
+ArrivalsHear = (n n' : NodeState) (by : By) (bearer number : ℕ) (bytes : List ℕ) (frames : List Outgoing) (answered : Arrival) (b es er : ℕ)
+    (p : Fields) → Arrives n n' by bearer number bytes frames answered → stop_of n bearer bytes ≡ None → IsFrom b bytes es er p
+    → kind_in bytes ≡ Links → TurnHears n n' b bearer es er p number

@@ -11,7 +11,7 @@ use Rattle.tipc_header.specs.Frames.{kind_in}
 use Rattle.tipc_header.specs.Grammar.{Fits}
 use Rattle.tipc_header.specs.Spelling.{Fields}
 use Rattle.tipc_tunnel.specs.Tunnels.{Carries, Tunnelled}
-use Rattle.tipc_link_fsm.specs.Table.{Fsm, is_reset_reset}
+use Rattle.tipc_link_fsm.specs.Table.{Fsm, is_held, is_reset_reset}
 use Rattle.tipc_pair.specs.Facing.{PairEnds, other}
 use Rattle.tipc_pair.specs.LinkReadings.{silence_in}
 use Rattle.tipc_pair.specs.PairTurns.{Opening}
@@ -22,12 +22,16 @@ use Rattle.tipc_node.specs.Turns.{IsFrom}
 -- ---- what a node has for a peer
 
 -- The footing on which a node stands with a peer: its contact number, and by bearer its own epoch, or the one that its next link end there will
--- have; whether its link is up there; and whether its end there answers, as one that knows the peer's present epoch.
+-- have; whether its link is up there; whether its end there answers, as one that knows the peer's present epoch; and whether no end there is held. And
+-- whether it has seen the peer's contact number, and whether it had no contact.
 pub record Footing : Type 0 where
   pub contact : ℕ
   pub epoch : ℕ → ℕ
   pub up : ℕ → Bool
   pub answers : ℕ → Bool
+  pub free : ℕ → Bool
+  pub sees : Bool
+  pub alone : Bool
 
 -- A link end answers an epoch of its peer: it knows it, and its link is up or it heard the peer's reset. What it sends shows that epoch then.
 pub record AnswersTo (epoch : ℕ) (f : Fsm) : Type 0 where
@@ -39,14 +43,17 @@ pub record AnswersTo (epoch : ℕ) (f : Fsm) : Type 0 where
 -- The link states of an end on a bearer, of a node that has seen this contact number of its peer: the node stands with the peer on the one
 -- footing, and the peer with it on the other one.
 pub record IsStillEnd (own peer : Footing) (seen bearer : ℕ) (f : Fsm) : Type 0 where
-  -- its epoch is still the same, a link that was up is up, and an end that answered answers
+  -- its epoch is still the same, a link that was up is up, an end that answered answers, and one that wasn't held isn't
   pub epoch : f.own ≡ own.epoch bearer
   pub lasts : own.up bearer ≡ true → is_up f.state ≡ true
   pub answers : own.answers bearer ≡ true → AnswersTo (peer.epoch bearer) f
+  pub free : own.free bearer ≡ true → is_held f.state ≡ false
   -- it took no epoch above that of the peer; a link is up with just that epoch; and an end that knows it has seen the peer's contact number
   pub no_higher : f.highest ≤ peer.epoch bearer
   pub up : is_up f.state ≡ true → f.peer ≡ Some (peer.epoch bearer)
   pub contact : f.peer ≡ Some (peer.epoch bearer) → seen ≡ peer.contact
+  -- where the peer had no contact, an end that has seen its contact number knows no epoch but the present one
+  pub present : peer.alone ≡ true → seen ≡ peer.contact → (epoch : ℕ) → f.peer ≡ Some epoch → epoch ≡ peer.epoch bearer
 
 -- where no end is made, none was up, and the next one will be under the contact number
 pub record HasNoEnd (own : Footing) (bearer : ℕ) : Type 0 where
@@ -60,11 +67,12 @@ IsStillAt own peer seen bearer None = HasNoEnd own bearer
 IsStillAt own peer seen bearer (Some f) = IsStillEnd own peer seen bearer f
 
 -- A pair is still: its node stands with the peer on the one footing, as the peer with it on the other, and knows nothing of the peer that is above
--- that.
+-- that; where it had seen the peer's contact number, it still has.
 pub record IsStill (own peer : Footing) (x : PairEnds) : Type 0 where
   pub two : x.bearer ≤ 1
   pub contact : x.contact ≡ own.contact
   pub seen : x.seen ≤ peer.contact
+  pub sees : own.sees ≡ true → x.seen ≡ peer.contact
   pub near : IsStillAt own peer x.seen x.bearer (fsm_in x.near)
   pub far : IsStillAt own peer x.seen (other x.bearer) (fsm_in x.far)
 

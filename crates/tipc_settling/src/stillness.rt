@@ -4,11 +4,11 @@
 //! whatever arrives shows what its sender has at present, both stay as they are, and links only go up.
 
 ghost use Rattle.tipc_settling.specs.Bearers.{SendsOnMended};
-ghost use Rattle.tipc_settling.specs.Beginnings.{BeginsStill, SendsUnderPresent, ShowsPresentContact};
-ghost use Rattle.tipc_settling.specs.Events.{ArrivalsAreCalm, ArrivalsEndSilence, ArrivalsSendUnderPresent, ArrivalsStayStill, EventsAddSilence, EventsAreCalm, EventsSendUnderPresent, EventsStayStill, EventsTellNothing};
+ghost use Rattle.tipc_settling.specs.Beginnings.{BeginsStill, SendsUnderPresent, ShowsPresentContact, StandsAnew, TrafficTellsUp};
+ghost use Rattle.tipc_settling.specs.Events.{ArrivalsAreCalm, ArrivalsEndSilence, ArrivalsHear, ArrivalsSendUnderPresent, ArrivalsStayStill, EventsAddSilence, EventsAreCalm, EventsSendUnderPresent, EventsStayStill, EventsTellNothing};
 ghost use Rattle.tipc_settling.specs.Freshness.{AckedIsNumbered, AirAcknowledgesNumbered, FewAreNumbered, TurnsAcknowledgeNoMore};
 ghost use Rattle.tipc_settling.specs.Laws.{ActivatesAreHarmless, NumbersAreHarmless, ReleasesAreHarmless, ResetsAreHarmless, TicksAreHarmless, TrafficIsHarmless, TunnelsAreHarmless, TurnsStayStill, TurnsTellNothing};
-ghost use Rattle.tipc_settling.specs.Rises.{ActivatesTakeUp, ResetsMakeAnswer, StatesTakeUp, TicksSayNotice};
+ghost use Rattle.tipc_settling.specs.Rises.{ActivatesTakeUp, ArrivalsMakeAnswer, ArrivalsTakeUp, ArrivalsTakeUpAnswering, ArrivalsTellAnswer, ArrivalsTellContact, EventsHearUps, EventsTellAnswer, HeardEndsAnswer, NodesSayNotice, NoticesTellContact, ResetsMakeAnswer, StatesTakeUp, TicksSayNotice, TurnsTellAnswer, UpsWereHeard};
 ghost use Rattle.tipc_settling.specs.Silence.{SilenceGrowsByTicks, TicksSayState, WordsAreTaken, WordsEndSilence};
 
 /// What comes to a link end while its peer has one epoch and one contact number takes nothing down: a RESET or an ACTIVATE that shows both,
@@ -62,6 +62,17 @@ pub fn stillness_begins_at_any_moment()
     ensures shows { ShowsPresentContact }
 {}
 
+/// A still pair is still on the footing of any later moment too: a link that came up meanwhile stays up, an end that began to answer goes on to, and
+/// one that isn't held stays so.
+pub fn what_came_up_stays_up()
+    ensures { StandsAnew }
+{}
+
+/// A STATE or a numbered packet in the air under the present epoch of its sender's link end was sent by a link that is up.
+pub fn what_is_told_in_a_session_tells_of_it()
+    ensures { TrafficTellsUp }
+{}
+
 /// Each frame of the links that leaves a still pair is under the present epoch of its node.
 pub fn what_leaves_shows_the_present()
     ensures { SendsUnderPresent }
@@ -99,11 +110,46 @@ pub fn at_most_a_window_is_numbered_more()
 
 /// A link between two nodes between which nothing goes down comes up: an end that isn't held, and isn't at the last epoch of its boot, answers its
 /// peer once it heard a RESET that shows the present; it is up once it heard an ACTIVATE under the present epochs of both; and an end that
-/// answers is up once it heard a STATE or a numbered packet under them. At a tick an end that is in reset, on a mended bearer, says RESET, or
-/// ACTIVATE where it heard its peer's reset.
+/// answers is up once it heard a STATE or a numbered packet under them. By a RESET or an ACTIVATE a pair has seen its peer's contact number. At a
+/// tick an end that is in reset, on a mended bearer, says RESET, or ACTIVATE where it heard its peer's reset.
 pub fn what_shows_the_present_takes_links_up()
     ensures resets { ResetsMakeAnswer }
     ensures activates { ActivatesTakeUp }
     ensures states { StatesTakeUp }
+    ensures contact { NoticesTellContact }
     ensures ticks { TicksSayNotice }
+{}
+
+/// An end that heard a reset of its peer answers it, where the peer had no contact when stillness began, and its contact number was seen since.
+pub fn ends_that_heard_a_reset_answer()
+    ensures { HeardEndsAnswer }
+{}
+
+/// An ACTIVATE that shows the peer's present epoch leaves a still pair only from an end that answers that epoch, also when the turn, or the event of
+/// the node, is over: so the peer whose link goes up by it has an end towards it that answers.
+pub fn activates_leave_ends_that_answer()
+    ensures turns { TurnsTellAnswer }
+    ensures events { EventsTellAnswer }
+    ensures arrivals { ArrivalsTellAnswer }
+{}
+
+/// A link goes up by what its end hears alone: an ACTIVATE, a STATE or a numbered packet on its bearer, under the present epoch of its own end.
+pub fn links_go_up_by_what_they_hear()
+    ensures turns { UpsWereHeard }
+    ensures events { EventsHearUps }
+{}
+
+/// A link packet of a peer that isn't stopped is heard in a turn of the pair to that peer, whatever becomes of it.
+pub fn arrivals_hear_in_turns()
+    ensures { ArrivalsHear }
+{}
+
+/// So at a node a RESET of its peer makes an end answer, an ACTIVATE takes it up, and so does a STATE where it answers; either notice tells the
+/// peer's contact number; and a tick that tells of no link and no contact says what the node's ends in reset say.
+pub fn links_come_up_at_a_node()
+    ensures resets { ArrivalsMakeAnswer }
+    ensures activates { ArrivalsTakeUp }
+    ensures states { ArrivalsTakeUpAnswering }
+    ensures contact { ArrivalsTellContact }
+    ensures ticks { NodesSayNotice }
 {}
