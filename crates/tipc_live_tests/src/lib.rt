@@ -3,6 +3,8 @@
 #![tactic(auto)]
 
 #[cfg(test)]
+mod aged;
+#[cfg(test)]
 mod calling;
 #[cfg(test)]
 mod honest;

@@ -2,9 +2,9 @@
 
 ghost use Rattle.std.specs.Prelude.{◌≡◌, length, replicate, IfOk};
 ghost use Rattle.tipc_stamp.specs.Seats.{new_seat};
-ghost use Rattle.tipc_work_tests.specs.declared.bearers.TheConstants.{PASSES};
+ghost use Rattle.tipc_work_tests.specs.declared.runs.TheConstants.{PASSES_OF_ONE_EACH};
 
-use crate::runs::run;
+use crate::runs::{ONE_EACH, PASSES_OF_ONE_EACH, run};
 use std::alloc::Global;
 use std::process::Abort;
 use std::sync::Wait;
@@ -14,7 +14,6 @@ use tipc_journal::Entry;
 use tipc_outside::{Bearer, BearerFault, FreeGate, Heard};
 use tipc_stamp::{StampSeat, Stamps};
 use tipc_types::*;
-use tipc_work::*;
 
 /// A request of node 2 to all, as the executable rules of another program spell it.
 const REQUEST: [u8; 56] = [
@@ -129,17 +128,6 @@ fn is_first_arrival(entry: &Entry) -> bool {
     }
 }
 
-/// Two nodes with one caller each, which sends one message.
-const PLAN: LivePlan = LivePlan {
-    udp: false,
-    nodes: 2,
-    callers: 1,
-    messages: 1,
-};
-
-/// How many passes its nodes have: one for each caller and one for each mover.
-const PASSES: u32 = 4;
-
 /// Runs the plan over bearers of which the first gives a request: it arrives, byte for byte, and the response is sent there, byte for byte.
 fn run_answering<R: Threads + Wait + Abort + Sync>(
     rt: &R,
@@ -147,9 +135,10 @@ fn run_answering<R: Threads + Wait + Abort + Sync>(
     stamps: &Stamps,
     seats: Vec<StampSeat>,
 ) -> Result<(), NoMemory>
-    requires { seats.items ≡ replicate PASSES (new_seat stamps.now) }
+    requires { seats.items ≡ replicate PASSES_OF_ONE_EACH (new_seat stamps.now) }
 {
-    let left = run(rt, alloc, &PLAN, stamps, seats, bearers(alloc)?, &FreeGate)?;
+    let bearers = bearers(alloc)?;
+    let left = run(rt, alloc, &ONE_EACH, stamps, seats, bearers, &FreeGate)?;
     let Some(node) = left.nodes.first() else {
         panic!(rt; "no node is left")
     };
@@ -167,7 +156,7 @@ fn run_answering<R: Threads + Wait + Abort + Sync>(
 #[test]
 fn a_request_is_answered_on_its_bearer(rt: HostRuntime) -> Result<(), Fail> {
     let alloc = rt.alloc();
-    let (stamps, seats) = Stamps::new(alloc, PASSES)?;
+    let (stamps, seats) = Stamps::new(alloc, PASSES_OF_ONE_EACH)?;
     run_answering(&rt, alloc, &stamps, seats)?;
     Ok(())
 }

@@ -3,10 +3,12 @@
 #![tactic(auto)]
 
 #[cfg(test)]
+mod audits;
+#[cfg(test)]
 mod bearers;
 #[cfg(test)]
 mod gates;
 #[cfg(test)]
-mod readings;
+mod media;
 #[cfg(test)]
 mod runs;
