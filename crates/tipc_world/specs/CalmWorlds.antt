@@ -1,7 +1,6 @@
 -- A poised world that settles: nothing goes down in it, and nothing goes up.
 use Rattle.std.specs.Prelude.{◌≡◌, ◌≢◌, ◌≤◌, ℕ, true}
 use Rattle.tipc_pair.specs.Facing.{PairEnds, facing, is_up_at}
-use Rattle.tipc_paired.specs.Views.{es_of}
 use Rattle.tipc_settling.specs.Stillness.{Footing, IsStill}
 use Rattle.tipc_node.specs.Nodes.{pair_with}
 use Rattle.tipc_replay.specs.declared.air.Sent.{Sent}
@@ -11,7 +10,7 @@ use Rattle.tipc_replay.specs.States.{MemberState, is_mended_at}
 use Rattle.tipc_world.specs.Ends.{ends_of}
 use Rattle.tipc_world.specs.RoundParts.{Guards}
 use Rattle.tipc_world.specs.States.{WorldState}
-use Rattle.tipc_world.specs.StillWorlds.{footing_at}
+use Rattle.tipc_world.specs.StillWorlds.{IsUpToDate, footing_at}
 
 -- a pair is calm since a call began: it is still, and each of its links is up just where it was
 pub record IsCalmPair (own peer : Footing) (x : PairEnds) : Type 0 where
@@ -22,9 +21,9 @@ pub record IsCalmPair (own peer : Footing) (x : PairEnds) : Type 0 where
 abbrev pub IsCalmNode : WorldState → ℕ → MemberState → Type 0
 IsCalmNode start n m = (b : ℕ) → IsNumber b → n ≢ b → IsCalmPair (footing_at start n b) (footing_at start b n) (pair_with m.node b)
 
--- a frame of the links is under the epoch that its sender had on its bearer when the call began, and the bearer was mended there
+-- a frame of the links is up to date with its sender when the call began, and the bearer was mended there
 pub record IsSaidBy (start : WorldState) (bearer : ℕ) (f : Sent) (s d : ℕ) : Type 0 where
-  pub epoch : es_of f.frame ≡ (footing_at start s d).epoch bearer
+  pub present : IsUpToDate (footing_at start s d) bearer f.frame
   pub mended : is_mended_at start.members s bearer ≡ true
 
 abbrev pub IsFromMended : WorldState → ℕ → Sent → Type 0

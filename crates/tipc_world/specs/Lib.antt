@@ -14,3 +14,9 @@ pub mod Poised
 pub mod RoundParts
 pub mod StillWorlds
 pub mod CalmWorlds
+pub mod YoungWorlds
+pub mod HeardWorlds
+pub mod Directions
+pub mod Rows
+pub mod Measures
+pub mod RisingWorlds

@@ -1,13 +1,12 @@
--- When a world is poised to settle, what is under way in it, and when it stands at the beginning of coming up.
-use Rattle.std.specs.Prelude.{◌≡◌, ◌≢◌, ◌⊎◌, ◌≤◌, ◌<◌, ℕ, ◌+◌, ◌-◌, ◌%◌, true, false, List, Option, None, Some, IfSome, length, sum_by}
+-- When a world is poised to settle and stays so, what is under way in it, and when it stands at the beginning of coming up.
+use Rattle.std.specs.Prelude.{◌≡◌, ◌≢◌, ◌⊎◌, ◌≤◌, ℕ, ◌+◌, ◌-◌, true, false, List, Option, None, Some, length, sum_by}
 use Rattle.tipc_types.specs.LinkStates.{is_up}
 use Rattle.tipc_types.specs.declared.message_forms.Flow.{Flow}
 use Rattle.tipc_types.specs.declared.message_forms.Flow.TheVariants.{Broadcast, One, Zero}
 use Rattle.tipc_link_fsm.specs.Table.{is_held}
 use Rattle.tipc_link.specs.Links.{LinkEnd}
-use Rattle.tipc_pair.specs.Facing.{PairEnds}
 use Rattle.tipc_replay.specs.Readers.{unacked_in, waiting_in}
-use Rattle.tipc_replay.specs.States.{MemberState, accepted_at, contact_at, delivered_at, has_member, is_link_up_at, is_mended_at, link_at, pair_at}
+use Rattle.tipc_replay.specs.States.{MemberState, accepted_at, contact_at, delivered_at, has_member, is_link_up_at, is_mended_at, link_at}
 use Rattle.tipc_world.specs.Answered.{sum_to}
 use Rattle.tipc_world.specs.States.{WorldState}
 
@@ -46,6 +45,13 @@ pub record LinkIsCut (members : List (Option MemberState)) (a b bearer : ℕ) : 
 abbrev pub IsPoised : WorldState → Type 0
 IsPoised w = (a b bearer : ℕ) → has_member w.members a ≡ true → has_member w.members b ≡ true → a ≢ b → bearer ≤ 1
     → LinkStands w.members a b bearer ⊎ LinkIsCut w.members a b bearer
+
+-- From one moment to a later one a world stays poised: it is poised then too, each link end is up just where it was, and each two nodes are in the
+-- contact in which they were.
+pub record StaysPoised (old new : WorldState) : Type 0 where
+  pub poised : IsPoised new
+  pub links : (a b bearer : ℕ) → bearer ≤ 1 → is_link_up_at new.members a b bearer ≡ is_link_up_at old.members a b bearer
+  pub contacts : (a b : ℕ) → contact_at new.members a b ≡ contact_at old.members a b
 
 -- ---- what is under way
 
@@ -91,17 +97,3 @@ pub record IsDownEnd (e : LinkEnd) : Type 0 where
 -- no link end of any node is up or held
 abbrev pub IsDownWorld : WorldState → Type 0
 IsDownWorld w = (a b bearer : ℕ) (e : LinkEnd) → link_at w.members a b bearer ≡ Some e → IsDownEnd e
-
--- the count in a contact number or an epoch, which stands below its boot, is below this bound
-abbrev pub IsLowNumber : ℕ → Type 0
-IsLowNumber number = number % 4294967296 < 4000000000
-
--- so it is with the contact number of a pair, and with the epoch of each of its ends
-pub record HasLowCounts (x : PairEnds) : Type 0 where
-  pub contact : IsLowNumber x.contact
-  pub near : IfSome x.near (λ (e : LinkEnd). IsLowNumber e.fsm.own)
-  pub far : IfSome x.far (λ (e : LinkEnd). IsLowNumber e.fsm.own)
-
--- and with those of each node and each peer of it
-abbrev pub AreCountsLow : WorldState → Type 0
-AreCountsLow w = (a b : ℕ) (x : PairEnds) → pair_at w.members a b ≡ Some x → HasLowCounts x

@@ -19,11 +19,13 @@ ghost use Rattle.tipc_world.specs.declared.places.Places.{Places};
 ghost use Rattle.tipc_world.specs.declared.settling.Receivers.TheVariants.{Any};
 ghost use Rattle.tipc_world.specs.declared.settling.Settled.TheVariants.{Quiet};
 ghost use Rattle.tipc_world.specs.CalmWorlds.{IsCalmWorld};
-ghost use Rattle.tipc_world.specs.Poised.{packets_under_way, AreCountsLow, IsDownWorld, IsPoised};
+ghost use Rattle.tipc_world.specs.HeardWorlds.{BeginsRound, StandsCalm};
+ghost use Rattle.tipc_world.specs.Poised.{packets_under_way, IsDownWorld, IsPoised, StaysPoised};
+ghost use Rattle.tipc_world.specs.RisingWorlds.{AreUpsAnswered, IsRisingWorld};
 ghost use Rattle.tipc_world.specs.RoundParts.{ComesFrom, EachNode, GoesByRounds, GrowsNoMore, HappensWhole, HasArrivedOnce, HasTickedOnce, IsKept, IsRound, PartsAt, PartsAtRound, RoundStep, TickBrings};
 ghost use Rattle.tipc_world.specs.Settling.{arrival_asked, settled_by, tick_asked, Round, Rounds};
 ghost use Rattle.tipc_world.specs.States.{is_there, WorldState};
-ghost use Rattle.tipc_world.specs.StillWorlds.{HasHeardAll, IsStillWorld, MayBeStill, NameEndedSessions};
+ghost use Rattle.tipc_world.specs.StillWorlds.{HasHeardAll, IsStillWorld, MayBeStill};
 
 /// A course parts at each of its numbers, and the rounds of a call part at each round: what stands before, and what behind. A round has its parts: every
 /// node ticks, and then frames arrive on bearer 0, and then on bearer 1. (This project's profile.)
@@ -103,27 +105,48 @@ pub fn no_packets_are_quiet()
     ensures { (w : WorldState) → packets_under_way w ≡ 0 → settled_by (world_load w.members) ≡ Quiet }
 {}
 
-/// While a world settles nothing goes down. Where each link that is up is up with what the peer has at present, and no contact number or link end is at the
-/// last number of its boot, as in a poised world and in one in which no link is up, each two nodes are still from the begin of the call on, and each
-/// round keeps them so in which no frame is lost and that begins when each node has heard all others in the last three ticks: contact numbers and
-/// epochs stay, links that were up stay up, and what is sent shows what its sender has at present. What arrives may name ended sessions alone. (This
-/// project's profile.)
+/// While a world settles nothing goes down. Where each link that is up is up with what the peer has at present, as in a poised world and in one in which no
+/// link is up, each two nodes are still from the begin of the call on, and each round keeps them so in which no frame is lost and that begins when each
+/// node has heard all others in the last three ticks: contact numbers and epochs stay, links that were up stay up, and what is sent shows what its sender
+/// has at present. (This project's profile.)
 pub fn nothing_goes_down_in_a_round()
-    ensures poised { (w : WorldState) → IsKept w → IsPoised w → AreCountsLow w → MayBeStill w }
-    ensures down { (w : WorldState) → IsDownWorld w → AreCountsLow w → MayBeStill w }
+    ensures poised { (w : WorldState) → IsKept w → IsPoised w → MayBeStill w }
+    ensures down { (w : WorldState) → IsDownWorld w → MayBeStill w }
     ensures begins { (start : WorldState) → IsKept start → MayBeStill start → start.lost ≡ false → IsStillWorld start start }
     ensures round { (start : WorldState) (places : Places) (outset : WorldState) (ends : Places) (now : WorldState) → IsKept start
-        → MayBeStill start → NameEndedSessions start → AreBefore (ends_of start.air) places → IsRound places outset ends now
-        → now.lost ≡ false → IsStillWorld start outset → EachNode HasHeardAll outset → IsStillWorld start now }
+        → AreBefore (ends_of start.air) places → IsRound places outset ends now → now.lost ≡ false → IsStillWorld start outset
+        → EachNode HasHeardAll outset → IsStillWorld start now }
 {}
 
 /// And from a poised world on nothing goes up: each round keeps each link up just where it was, and all that is sent is sent on bearers that are mended.
 /// (This project's profile.)
 pub fn a_poised_world_stays_calm()
-    ensures begins { (start : WorldState) → IsKept start → IsPoised start → AreCountsLow start → start.lost ≡ false
-        → IsCalmWorld start start }
+    ensures begins { (start : WorldState) → IsKept start → IsPoised start → start.lost ≡ false → IsCalmWorld start start }
     ensures round { (start : WorldState) (places : Places) (outset : WorldState) (ends : Places) (now : WorldState) → IsKept start
-        → IsPoised start → AreCountsLow start → NameEndedSessions start → AreBefore (ends_of start.air) places
-        → IsRound places outset ends now → now.lost ≡ false → IsCalmWorld start outset → EachNode HasHeardAll outset
-        → IsCalmWorld start now }
+        → IsPoised start → AreBefore (ends_of start.air) places → IsRound places outset ends now → now.lost ≡ false
+        → IsCalmWorld start outset → EachNode HasHeardAll outset → IsCalmWorld start now }
+{}
+
+/// In a poised world each node has heard all others in the last three ticks. And each round of a call that began in one leaves each node so: what each node
+/// says at its tick of a link that is up arrives in the round, none of whose frames is too old, and ends the silence at the other end. So the call leaves
+/// each link up just where it was through all its rounds, and the world is poised again after it. (This project's profile.)
+pub fn a_poised_world_hears_itself()
+    ensures begins { (w : WorldState) → IsKept w → IsPoised w → EachNode HasHeardAll w }
+    ensures round { (start : WorldState) (places : Places) (outset : WorldState) (ends : Places) (now : WorldState)
+        → IsRound places outset ends now → BeginsRound start places outset now → EachNode HasHeardAll now }
+    ensures call { (start : WorldState) (rounds : ℕ) (places : Places) (now : WorldState) → IsKept start → IsPoised start
+        → Rounds start rounds places now → now.lost ≡ false → StandsCalm start places now }
+    ensures again { (start : WorldState) (places : Places) (now : WorldState) → IsKept start → IsPoised start
+        → StandsCalm start places now → StaysPoised start now }
+{}
+
+/// In a world in which no link is up nothing goes down in the first four rounds either in which no frame is lost, while links come up: no link is silent for
+/// more ticks than rounds were made. And each link that is up is answered: the end of its peer knows its present epoch, and is up or heard a reset. (This
+/// project's profile.)
+pub fn links_that_come_up_are_answered()
+    ensures begins { (start : WorldState) → IsKept start → IsDownWorld start → start.lost ≡ false
+        → IsRisingWorld start 0 start × AreUpsAnswered start start }
+    ensures round { (start : WorldState) (most : ℕ) (places : Places) (outset : WorldState) (ends : Places) (now : WorldState)
+        → IsKept start → most ≤ 3 → AreBefore (ends_of start.air) places → IsRound places outset ends now → now.lost ≡ false
+        → IsRisingWorld start most outset → AreUpsAnswered start outset → IsRisingWorld start (most + 1) now × AreUpsAnswered start now }
 {}

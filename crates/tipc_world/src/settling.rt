@@ -1,9 +1,10 @@
 //! Frames that arrive where they are for, and rounds of ticks and arrivals until nothing is under way.
 
-ghost use Rattle.std.specs.Prelude.{◌≡◌, ◌≤◌, ◌+◌, ◌*◌, true, if◌then◌else◌, is_some, IfOk, IfSome};
+ghost use Rattle.std.specs.Prelude.{◌≡◌, ◌≤◌, ◌+◌, ◌*◌, true, if◌then◌else◌, is_some, IfOk, IfSome, OnOk};
 ghost use Rattle.tipc_world.specs.Courses.{numbers, Continues, Maybe, Takes, TakesAll, TakesCounted};
 ghost use Rattle.tipc_world.specs.Ends.{ends_of, AreBefore};
 ghost use Rattle.tipc_world.specs.Good.{IsGood};
+ghost use Rattle.tipc_world.specs.Poised.{IsPoised, StaysPoised};
 ghost use Rattle.tipc_replay.specs.Due.{frame_for};
 ghost use Rattle.tipc_replay.specs.Readers.{world_load};
 ghost use Rattle.tipc_world.specs.Settling.{arrival_asked, arrival_at, is_among, settled_by, tick_asked, Arrivals, Delivers, IsForOne, MakesRounds, Round, Settles};
@@ -334,7 +335,9 @@ impl<P: Pick> World<P> {
         ensures comes { Settles rounds self.old.state result self.new.state }
         ensures continues { Continues P.gives self.old self.new }
         ensures good { IsGood P.gives self.new }
+        ensures poised { OnOk result (IsPoised self.old.state → StaysPoised self.old.state self.new.state) }
     {
+        self.kept();
         let settled = self.go_round(alloc, rounds);
         self.good();
         settled

@@ -10,6 +10,7 @@ ghost use Rattle.tipc_world.specs.Good.{IsGood};
 ghost use Rattle.tipc_world.specs.Growth.{Grows};
 ghost use Rattle.tipc_world.specs.Limits.{IsAnswered, Stops};
 ghost use Rattle.tipc_world.specs.Merged.{merged, recorded_by, AddsAtFault};
+ghost use Rattle.tipc_world.specs.RoundParts.{IsKept};
 ghost use Rattle.tipc_world.specs.States.{is_there, no_nodes};
 ghost use Rattle.tipc_world.specs.Steps.{by_in, IsJoined};
 
@@ -131,6 +132,13 @@ impl<P: Pick> World<P> {
         ensures { IsGood P.gives self.now }
     {
         self.replay.good();
+    }
+
+    /// Tells what every world keeps, with which the laws of settling begin. It does nothing.
+    pub fn kept(&self)
+        ensures { IsKept self.now.state }
+    {
+        self.replay.steady();
     }
 
     /// Adds a node in its first boot, which knows nobody.

@@ -1,25 +1,31 @@
--- Stillness may begin in a poised world, and in one in which no link is up, where no count is high.
-use Rattle.std.specs.Prelude.{◌==◌, if◌then◌else◌, nat_le, IfSome}
+-- Stillness may begin in a poised world, and in one in which no link is up: no contact number or epoch is a boot's last.
+use Rattle.std.specs.Prelude.{◌<◌, ◌==◌, if◌then◌else◌, nat_le, IfSome, option_map}
 use Rattle.std.proofs.Common.{◌≡◌, ◌≢◌, ◌≤◌, ◌%◌, ◌∙◌, ℕ, Bool, true, false, Option, Some, None, slice_index_or, is_some, inl, inr, refl, sym, ap, subst, arith}
 use Rattle.std.proofs.lemmas.Bool.{leb-true, ne_eqb, true≢false}
 use Rattle.tipc_contact.specs.Sides.{first_number}
 use Rattle.tipc_link_fsm.specs.Table.{is_last}
 use Rattle.tipc_link.specs.Links.{LinkEnd}
 use Rattle.tipc_pair.specs.Facing.{PairEnds, facing, is_up_at, turned}
+use Rattle.tipc_node.specs.declared.neighbours.Neighbour.{Neighbour}
+use Rattle.tipc_node.specs.Nodes.{NodeState, acquaintance, neighbour_of, pair_with}
+use Rattle.tipc_node.specs.Numbers.{IsLow, lower_half}
+use Rattle.tipc_node.specs.Turns.{pair_in}
+use Rattle.tipc_node.proofs.pairs.Numbers.{numbers_low}
 use Rattle.tipc_settling.specs.Beginnings.{AreUpWithPresent, HasMoreEpochs}
 use Rattle.tipc_replay.specs.Numbers.{end_on, own_in}
 use Rattle.tipc_replay.specs.States.{MemberState, boot_at, has_member, link_at, pair_at}
 use Rattle.tipc_replay.specs.Views.{sight_at}
+use Rattle.tipc_replay.proofs.LookUps.{member_at-is, pair_at-is}
 use Rattle.tipc_replay.proofs.SoundWorlds.{absent_pair}
 use Rattle.tipc_replay.proofs.calls.Outcomes.{some_is}
-use Rattle.tipc_world.specs.Poised.{AreCountsLow, HasLowCounts, IsDownWorld, IsLowNumber, IsPoised, LinkStands}
+use Rattle.tipc_world.specs.Poised.{IsDownWorld, IsPoised, LinkStands}
 use Rattle.tipc_world.specs.RoundParts.{IsKept}
 use Rattle.tipc_world.specs.States.{WorldState}
 use Rattle.tipc_world.specs.StillWorlds.{MayBeStill}
 
 -- ---- counts that are low
 
-low_goes_on : (number : ℕ) → IsLowNumber number → is_last number ≡ false
+low_goes_on : (number : ℕ) → lower_half number < 4000000000 → is_last number ≡ false
 unfolding is_last
 low_goes_on number low = ne_eqb (number % 4294967296) 4294967295 (λ same. omega (arith, low, same))
 
@@ -27,7 +33,7 @@ first_goes_on : (boot : ℕ) → is_last (first_number boot) ≡ false
 first_goes_on boot = low_goes_on (first_number boot) (omega arith)
 
 -- what holds of both ends of a pair holds of the one on a bearer
-on_both : (P : LinkEnd → Type 0) (x : PairEnds) (bearer : ℕ) → IfSome x.near P → IfSome x.far P → IfSome (facing bearer x).near P
+pub on_both : (P : LinkEnd → Type 0) (x : PairEnds) (bearer : ℕ) → IfSome x.near P → IfSome x.far P → IfSome (facing bearer x).near P
 unfolding facing
 on_both P x bearer near far = by (x.bearer == bearer)
   where
@@ -35,31 +41,49 @@ on_both P x bearer near far = by (x.bearer == bearer)
     by true = near
     by false = far
 
-its_end : (P : LinkEnd → Type 0) (o : Option LinkEnd) (e : LinkEnd) → o ≡ Some e → IfSome o P → P e
+pub its_end : (P : LinkEnd → Type 0) (o : Option LinkEnd) (e : LinkEnd) → o ≡ Some e → IfSome o P → P e
 its_end P o e is h = subst (λ k. IfSome k P) is h
 
 -- an end that is found is one of a pair's
-end_low : (bearer : ℕ) (o : Option PairEnds) (e : LinkEnd) → end_on bearer o ≡ Some e → ((x : PairEnds) → o ≡ Some x → HasLowCounts x) → is_last e.fsm.own ≡ false
+end_low : (bearer : ℕ) (o : Option PairEnds) (e : LinkEnd) → end_on bearer o ≡ Some e → ((x : PairEnds) → o ≡ Some x → IsLow x) → is_last e.fsm.own ≡ false
 end_low bearer None e is low = absurd cc
 end_low bearer (Some x) e is low = by (nat_le bearer 1) is
   where
     by : (t : Bool) → (if t then (facing bearer x).near else None) ≡ Some e → is_last e.fsm.own ≡ false
     by true is =
         let counts = low x refl in
-        low_goes_on e.fsm.own (its_end (λ (k : LinkEnd). IsLowNumber k.fsm.own) (facing bearer x).near e is (on_both (λ (k : LinkEnd). IsLowNumber k.fsm.own) x bearer counts.near counts.far))
+        low_goes_on e.fsm.own (its_end (λ (k : LinkEnd). lower_half k.fsm.own < 4000000000) (facing bearer x).near e is (on_both (λ (k : LinkEnd). lower_half k.fsm.own < 4000000000) x bearer counts.near counts.far))
     by false is = absurd cc
 
-more_epochs : (w : WorldState) (a b : ℕ) → AreCountsLow w → HasMoreEpochs (sight_at w.members w.air a b)
-unfolding sight_at
-more_epochs w a b low bearer e is = end_low bearer (pair_at w.members a b) e is (low a b)
+-- the counts of each node are low
+known_pair : (n : NodeState) (b : ℕ) (x : PairEnds) → pair_in n b ≡ Some x → pair_with n b ≡ x
+known_pair n b x is = by (neighbour_of n b) is
+  where
+    by : (o : Option Neighbour) → option_map (λ (y : Neighbour). y.pair) o ≡ Some x → (acquaintance n b o).pair ≡ x
+    by None none = absurd cc
+    by (Some y) some = some_is y.pair x some
 
-contact_low : (w : WorldState) (a b : ℕ) → AreCountsLow w → is_last (sight_at w.members w.air a b).node.contact ≡ false
+pair_low : (w : WorldState) (a b : ℕ) (x : PairEnds) → IsKept w → pair_at w.members a b ≡ Some x → IsLow x
+pair_low w a b x kept is = by (slice_index_or w.members a None) refl
+  where
+    by : (o : Option MemberState) → slice_index_or w.members a None ≡ o → IsLow x
+    by None none = absurd (let wrong : None ≡ Some x = sym (absent_pair w.members a b none) ∙ is in cc)
+    by (Some m) there =
+        let low = numbers_low m.node (kept.nodes.ends a m there) (kept.nodes.numbers a m there) (kept.nodes.bounded a m there) in
+        subst IsLow (known_pair m.node b x (sym (pair_at-is w.members a b m (member_at-is w.members a m there)) ∙ is)) (low b)
+
+-- so there are more epochs, and more contact numbers
+pub more_epochs : (w : WorldState) (a b : ℕ) → IsKept w → HasMoreEpochs (sight_at w.members w.air a b)
 unfolding sight_at
-contact_low w a b low = by (pair_at w.members a b) refl
+more_epochs w a b kept bearer e is = end_low bearer (pair_at w.members a b) e is (λ x there. pair_low w a b x kept there)
+
+pub more_contacts : (w : WorldState) (a b : ℕ) → IsKept w → is_last (sight_at w.members w.air a b).node.contact ≡ false
+unfolding sight_at
+more_contacts w a b kept = by (pair_at w.members a b) refl
   where
     by : (o : Option PairEnds) → pair_at w.members a b ≡ o → is_last (own_in (boot_at w.members a) o) ≡ false
     by None none = first_goes_on (boot_at w.members a)
-    by (Some x) is = low_goes_on x.contact (low a b x is).contact
+    by (Some x) is = low_goes_on x.contact (pair_low w a b x kept is).contact
 
 -- ---- links that are up
 
@@ -73,14 +97,14 @@ end_two bearer (Some x) e is = by (nat_le bearer 1) refl is
     by false two is = absurd cc
 
 -- a node that has a link end is there, and so is its peer
-node_there : (w : WorldState) (a b bearer : ℕ) (e : LinkEnd) → link_at w.members a b bearer ≡ Some e → has_member w.members a ≡ true
+pub node_there : (w : WorldState) (a b bearer : ℕ) (e : LinkEnd) → link_at w.members a b bearer ≡ Some e → has_member w.members a ≡ true
 node_there w a b bearer e is = by (slice_index_or w.members a None) refl
   where
     by : (o : Option MemberState) → slice_index_or w.members a None ≡ o → is_some (slice_index_or w.members a None) ≡ true
     by None none = absurd (let wrong : None ≡ Some e = sym (ap (end_on bearer) (absent_pair w.members a b none)) ∙ is in cc)
     by (Some m) there = ap is_some there
 
-peer_there : (w : WorldState) (a b bearer : ℕ) (e : LinkEnd) → IsKept w → link_at w.members a b bearer ≡ Some e → has_member w.members b ≡ true
+pub peer_there : (w : WorldState) (a b bearer : ℕ) (e : LinkEnd) → IsKept w → link_at w.members a b bearer ≡ Some e → has_member w.members b ≡ true
 peer_there w a b bearer e kept is = by (slice_index_or w.members b None) refl
   where
     by : (o : Option MemberState) → slice_index_or w.members b None ≡ o → is_some (slice_index_or w.members b None) ≡ true
@@ -103,20 +127,12 @@ poised_present w a b apart kept poised bearer e is up =
 
 -- ---- where it may begin
 
-pub poised_may_be_still : (w : WorldState) → IsKept w → IsPoised w → AreCountsLow w → MayBeStill w
-poised_may_be_still w kept poised low = record {
-  present = λ a b a_is b_is apart. poised_present w a b apart kept poised;
-  numbers = λ a b a_is b_is apart. contact_low w a b low;
-  more = λ a b a_is b_is apart. more_epochs w a b low;
-}
+pub poised_may_be_still : (w : WorldState) → IsKept w → IsPoised w → MayBeStill w
+poised_may_be_still w kept poised a b a_is b_is apart = poised_present w a b apart kept poised
 
 down_present : (w : WorldState) (a b : ℕ) → IsDownWorld w → AreUpWithPresent (sight_at w.members w.air a b) (sight_at w.members w.air b a)
 unfolding sight_at
 down_present w a b down bearer e is up = absurd (true≢false (sym up ∙ (down a b bearer e is).down))
 
-pub down_may_be_still : (w : WorldState) → IsDownWorld w → AreCountsLow w → MayBeStill w
-down_may_be_still w down low = record {
-  present = λ a b a_is b_is apart. down_present w a b down;
-  numbers = λ a b a_is b_is apart. contact_low w a b low;
-  more = λ a b a_is b_is apart. more_epochs w a b low;
-}
+pub down_may_be_still : (w : WorldState) → IsDownWorld w → MayBeStill w
+down_may_be_still w down a b a_is b_is apart = down_present w a b down

@@ -43,10 +43,10 @@ use Rattle.tipc_replay.proofs.InLists.{all_at, stands_passing}
 use Rattle.tipc_world.specs.declared.places.Places.{Places}
 use Rattle.tipc_world.specs.CalmWorlds.{IsCalmNode, IsCalmPair, IsCalmWorld, IsFromMended}
 use Rattle.tipc_world.specs.Ends.{ends_of, AreBefore}
-use Rattle.tipc_world.specs.Poised.{AreCountsLow, IsPoised}
+use Rattle.tipc_world.specs.Poised.{IsPoised}
 use Rattle.tipc_world.specs.RoundParts.{EachNode, FrameArrives, HappensWhole, IsKept, IsRound}
 use Rattle.tipc_world.specs.States.{WorldState}
-use Rattle.tipc_world.specs.StillWorlds.{HasHeardAll, IsStillWorld, IsUnderPresent, MayBeStill, NameEndedSessions, footing_at}
+use Rattle.tipc_world.specs.StillWorlds.{HasHeardAll, IsStillWorld, IsUnderPresent, footing_at}
 use Rattle.tipc_world.specs.Steps.{by_in}
 use Rattle.tipc_world.proofs.rounds.Beginning.{poised_may_be_still}
 use Rattle.tipc_world.proofs.rounds.Flying.{none_behind}
@@ -56,11 +56,11 @@ use Rattle.tipc_world.proofs.rounds.StillWorlds.{arrival_still, begins_still_all
 
 -- ---- what calm is beside stillness
 
-calm_is_still : (start w : WorldState) → IsCalmWorld start w → IsStillWorld start w
+pub calm_is_still : (start w : WorldState) → IsCalmWorld start w → IsStillWorld start w
 calm_is_still start w g = record {
   on = g.on;
   nodes = λ n m there b number apart. (g.nodes n m there b number apart).still;
-  frames = λ bearer place f on_one behind there s d s_is d_is apart goes_to. (g.frames bearer place f on_one behind there s d s_is d_is apart goes_to).epoch;
+  frames = λ bearer place f on_one behind there s d s_is d_is apart goes_to. (g.frames bearer place f on_one behind there s d s_is d_is apart goes_to).present;
 }
 
 -- ---- where nothing is told of links, they are up where they were
@@ -87,7 +87,7 @@ ups_stay n n' bytes s frames b bearer told told' turn none on_one =
 
 -- ---- what leaves is on mended bearers
 
-tick_keeps : (mended : Bool × Bool) (opening : Opening) → Suits note.Tick opening → KeepsBearers mended opening
+pub tick_keeps : (mended : Bool × Bool) (opening : Opening) → Suits note.Tick opening → KeepsBearers mended opening
 tick_keeps mended rests suits = tt
 tick_keeps mended (makes bearer is_mended) suits = absurd (let wrong : note.Tick ≡ note.Arrive bearer suits.1.0 = suits.1.1 in cc)
 tick_keeps mended (mends bearer) suits = absurd cc
@@ -95,7 +95,7 @@ tick_keeps mended (cuts bearer) suits = absurd cc
 tick_keeps mended (ticks shown) suits = tt
 tick_keeps mended (hears bearer es er p by shown) suits = absurd cc
 
-arrival_keeps : (mended : Bool × Bool) (on number : ℕ) (opening : Opening) → is_mended_on mended on ≡ true → Suits (note.Arrive on number) opening → KeepsBearers mended opening
+pub arrival_keeps : (mended : Bool × Bool) (on number : ℕ) (opening : Opening) → is_mended_on mended on ≡ true → Suits (note.Arrive on number) opening → KeepsBearers mended opening
 arrival_keeps mended on number rests mended_here suits = tt
 arrival_keeps mended on number (makes bearer is_mended) mended_here suits = (let arrives : note.Arrive on number ≡ note.Arrive bearer suits.1.0 = suits.1.1 in let one : on ≡ bearer = cc in subst (λ k. is_mended_on mended k ≡ true) one mended_here)
 arrival_keeps mended on number (mends bearer) mended_here suits = absurd cc
@@ -122,7 +122,7 @@ sends_mended old new event bytes answered h s kept turn keeps k o d d_is apart a
 
 -- ---- the bearers of a node are those of the begin
 
-mended_since : (start old : WorldState) (n : ℕ) (m : MemberState) (bearer : ℕ) → IsStillWorld start old → slice_index_or old.members n None ≡ Some m → is_mended_at start.members n bearer ≡ is_mended_on m.node.mended bearer
+pub mended_since : (start old : WorldState) (n : ℕ) (m : MemberState) (bearer : ℕ) → IsStillWorld start old → slice_index_or old.members n None ≡ Some m → is_mended_at start.members n bearer ≡ is_mended_on m.node.mended bearer
 mended_since start old n m bearer g there = sym (g.on.mended n bearer) ∙ (mended_read old n bearer ∙ ap (mended_in bearer) there)
 
 -- all that leaves in an event is under the present epochs
@@ -130,7 +130,7 @@ abbrev IsUnderAll : WorldState → WorldState → WorldState → WorldEvent → 
 IsUnderAll start old new event frames = (k : ℕ) (o : Outgoing) → slice_get frames k ≡ Some o → IsUnderPresent start o.bearer (airborne (contact_at old.members (node_of event)) new.members (node_of event) o)
 
 -- what leaves is said so
-said_since : (start old new : WorldState) (event : WorldEvent) (bytes : List ℕ) (answered : Answer) (h : HappensWhole old new event bytes answered) (s : NodeStep) → IsKept old → IsStillWorld start old → NodeTurn h.before.node h.after.node bytes s h.frames
+pub said_since : (start old new : WorldState) (event : WorldEvent) (bytes : List ℕ) (answered : Answer) (h : HappensWhole old new event bytes answered) (s : NodeStep) → IsKept old → IsStillWorld start old → NodeTurn h.before.node h.after.node bytes s h.frames
     → ((opening : Opening) → Suits s.event opening → KeepsBearers h.before.node.mended opening) → IsUnderAll start old new event h.frames → (k : ℕ) (o : Outgoing) → slice_get h.frames k ≡ Some o
     → IsFromMended start o.bearer (airborne (contact_at old.members (node_of event)) new.members (node_of event) o)
 said_since start old new event bytes answered h s kept g turn keeps under k o at sender d sender_is d_is apart goes_to =
@@ -140,13 +140,13 @@ said_since start old new event bytes answered h s kept g turn keeps under k o at
     let one : n ≡ sender = omega (arith, word) in
     let on = sends_mended old new event bytes answered h s kept turn keeps k o d d_is (λ same. apart (sym one ∙ same)) at both.1 in
     record {
-      epoch = under k o at sender d sender_is d_is apart goes_to;
+      present = under k o at sender d sender_is d_is apart goes_to;
       mended = subst (λ a. is_mended_at start.members a o.bearer ≡ true) one (mended_since start old n h.before o.bearer g h.was ∙ on);
     }
 
 -- ---- an event
 
-calm_tick : (start : WorldState) → IsKept start → TicksGuarded start (ends_of start.air) (IsCalmNode start) HasHeardAll (IsFromMended start)
+pub calm_tick : (start : WorldState) → IsKept start → TicksGuarded start (ends_of start.air) (IsCalmNode start) HasHeardAll (IsFromMended start)
 calm_tick start kept old new node answered h g next ready =
     let still = calm_is_still start old g in
     let stays = tick_still start (ends_of start.air) kept old new node answered h still next ready in
@@ -166,7 +166,7 @@ calm_tick start kept old new node answered h g next ready =
 -- ---- an arrival
 
 -- a frame that nothing stops came on a mended bearer
-comes_on_mended : (own : ℕ) (mended : Bool × Bool) (xs : List (Option Neighbour)) (bearer : ℕ) (bytes : List ℕ) → stop_among own mended xs bearer bytes ≡ None → is_mended_on mended bearer ≡ true
+pub comes_on_mended : (own : ℕ) (mended : Bool × Bool) (xs : List (Option Neighbour)) (bearer : ℕ) (bytes : List ℕ) → stop_among own mended xs bearer bytes ≡ None → is_mended_on mended bearer ≡ true
 unfolding stop_among
 comes_on_mended own mended xs bearer bytes free = by (is_mended_on mended bearer) free
   where
@@ -175,14 +175,14 @@ comes_on_mended own mended xs bearer bytes free = by (is_mended_on mended bearer
     by false free = absurd cc
 
 -- the end of a sight on a bearer
-up_seen : (w : WorldState) (a b bearer : ℕ) (e : LinkEnd) → bearer ≤ 1 → link_at w.members a b bearer ≡ Some e → is_up e.fsm.state ≡ true → (footing_at w a b).up bearer ≡ true
+pub up_seen : (w : WorldState) (a b bearer : ℕ) (e : LinkEnd) → bearer ≤ 1 → link_at w.members a b bearer ≡ Some e → is_up e.fsm.state ≡ true → (footing_at w a b).up bearer ≡ true
 unfolding facing sight_at
 up_seen w a b zero e on_one is up = ap is_up_at is ∙ up
 up_seen w a b (suc zero) e on_one is up = ap is_up_at is ∙ up
 up_seen w a b (suc (suc more)) e on_one is up = absurd (omega (arith, on_one))
 
 -- a bearer that is mended at both of two nodes of a poised world is one on which their link is up
-stands_up : (start : WorldState) (a b bearer : ℕ) → IsPoised start → has_member start.members a ≡ true → has_member start.members b ≡ true → a ≢ b → bearer ≤ 1 → is_mended_at start.members a bearer ≡ true → is_mended_at start.members b bearer ≡ true
+pub stands_up : (start : WorldState) (a b bearer : ℕ) → IsPoised start → has_member start.members a ≡ true → has_member start.members b ≡ true → a ≢ b → bearer ≤ 1 → is_mended_at start.members a bearer ≡ true → is_mended_at start.members b bearer ≡ true
     → (footing_at start a b).up bearer ≡ true
 stands_up start a b bearer poised here there apart on_one mended mended' = elim (poised a b bearer here there apart on_one) [
   | inl stands ↦ up_seen start a b bearer stands.near on_one stands.near_is stands.near_up.up
@@ -193,7 +193,7 @@ stands_up start a b bearer poised here there apart on_one mended mended' = elim 
 ]
 
 -- a frame that nothing stops comes on a link that was up
-comes_up : (start : WorldState) → IsKept start → IsPoised start → (old new : WorldState) (a : FrameArrives (ends_of start.air) old new) → IsCalmWorld start old → IsFromMended start a.bearer a.frame
+pub comes_up : (start : WorldState) → IsKept start → IsPoised start → (old new : WorldState) (a : FrameArrives (ends_of start.air) old new) → IsCalmWorld start old → IsFromMended start a.bearer a.frame
     → stop_of a.arrives.before.node a.bearer a.frame.frame ≡ None → (b : ℕ) → a.node ≢ b → (number : ℕ) → ComesToUpAt (footing_at start a.node b) b (note.Arrive a.bearer number) a.frame.frame
 comes_up start kept poised old new a g said free b apart number es er p brings kind_is =
     let n = a.node in
@@ -205,14 +205,11 @@ comes_up start kept poised old new a g said free b apart number es er p brings k
     let mended_n = mended_since start old n a.arrives.before a.bearer still a.arrives.was ∙ comes_on_mended a.arrives.before.node.own a.arrives.before.node.mended a.arrives.before.node.neighbours a.bearer a.frame.frame free in
     stands_up start n b a.bearer poised (sym (g.on.nodes n) ∙ ap is_some a.arrives.was) (sym (g.on.nodes b) ∙ sender.there) apart a.on_one mended_n mended_b
 
-calm_arrival : (start : WorldState) → IsKept start → IsPoised start → AreCountsLow start → NameEndedSessions start → ArrivalsGuarded start (ends_of start.air) (IsCalmNode start) (IsFromMended start)
-calm_arrival start kept poised low ended old new a g next said = by (stop_of a.arrives.before.node a.bearer a.frame.frame) refl
+pub calm_arrival : (start : WorldState) → IsKept start → IsPoised start → ArrivalsGuarded start (ends_of start.air) (IsCalmNode start) (IsFromMended start)
+calm_arrival start kept poised old new a g next said = by (stop_of a.arrives.before.node a.bearer a.frame.frame) refl
   where
     n : ℕ
     n = a.node
-
-    may : MayBeStill start
-    may = poised_may_be_still start kept poised low
 
     still : IsStillWorld start old
     still = calm_is_still start old g
@@ -230,8 +227,8 @@ calm_arrival start kept poised low ended old new a g next said = by (stop_of a.a
         let t = h.does.turn in
         let number_of = length h.before.arrivals in
         let s = step_of (by_in old.members old.stamps (Arrive a.node a.bearer a.place)) (note.Arrive a.bearer number_of) t.inside (answer.Arrived h.does.arrived) in
-        let under : IsUnderPresent start a.bearer a.frame = λ sd d sd_is d_is apart goes_to. (said sd d sd_is d_is apart goes_to).epoch in
-        let stays = arrival_still start kept may ended old new a still next under in
+        let under : IsUnderPresent start a.bearer a.frame = λ sd d sd_is d_is apart goes_to. (said sd d sd_is d_is apart goes_to).present in
+        let stays = arrival_still start kept old new a still next under in
         let calm = g.nodes a.node h.before h.was in
         let mended_here = comes_on_mended h.before.node.own h.before.node.mended h.before.node.neighbours a.bearer a.frame.frame free in
         record {
@@ -239,7 +236,7 @@ calm_arrival start kept poised low ended old new a g next said = by (stop_of a.a
             still = stays.node b number apart;
             ups = λ bearer on_one. ups_stay h.before.node h.after.node a.frame.frame s h.frames b bearer t.told_before t.told t.turn
                 (events_tell_nothing (footing_at start a.node b) (footing_at start b a.node) h.before.node h.after.node a.frame.frame s h.frames b t.told_before t.turn
-                (λ es er p brings kind_is. shows_present start kept may ended old new a still under b es er p brings kind_is) (comes_up start kept poised old new a g said free b apart number_of) (calm b number apart).still) on_one
+                (λ es er p brings kind_is. shows_present start kept old new a still under b es er p brings kind_is) (comes_up start kept poised old new a g said free b apart number_of) (calm b number apart).still) on_one
                 ∙ (calm b number apart).ups bearer on_one;
           };
           sent = said_since start old new (Arrive a.node a.bearer a.place) a.frame.frame a.answered h s (g.on.kept kept) still t.turn (λ opening suits. arrival_keeps h.before.node.mended a.bearer number_of opening mended_here suits) stays.sent;
@@ -247,17 +244,17 @@ calm_arrival start kept poised low ended old new a g next said = by (stop_of a.a
 
 -- ---- a round
 
-pub round_calm : (start : WorldState) (places : Places) (outset : WorldState) (ends : Places) (now : WorldState) → IsKept start → IsPoised start → AreCountsLow start → NameEndedSessions start → AreBefore (ends_of start.air) places
+pub round_calm : (start : WorldState) (places : Places) (outset : WorldState) (ends : Places) (now : WorldState) → IsKept start → IsPoised start → AreBefore (ends_of start.air) places
     → IsRound places outset ends now → now.lost ≡ false → IsCalmWorld start outset → EachNode HasHeardAll outset → IsCalmWorld start now
-round_calm start places outset ends now kept poised low ended behind r whole calm heard =
-    (round_guarded start (ends_of start.air) (IsCalmNode start) HasHeardAll (IsFromMended start) places outset ends now (calm_tick start kept) (calm_arrival start kept poised low ended) behind r whole calm heard).round
+round_calm start places outset ends now kept poised behind r whole calm heard =
+    (round_guarded start (ends_of start.air) (IsCalmNode start) HasHeardAll (IsFromMended start) places outset ends now (calm_tick start kept) (calm_arrival start kept poised) behind r whole calm heard).round
 
 -- so it is when the call begins
-pub call_begins_calm : (start : WorldState) → IsKept start → IsPoised start → AreCountsLow start → start.lost ≡ false → IsCalmWorld start start
-call_begins_calm start kept poised low clear = record {
+pub call_begins_calm : (start : WorldState) → IsKept start → IsPoised start → start.lost ≡ false → IsCalmWorld start start
+call_begins_calm start kept poised clear = record {
   on = settles_same start clear;
   nodes = λ n m there b number apart. record {
-    still = begins_still_all start kept (poised_may_be_still start kept poised low) n m there b number apart;
+    still = begins_still_all start kept (poised_may_be_still start kept poised) n m there b number apart;
     ups = λ bearer on_one. ap (λ x. is_up_at (facing bearer x).near) (sym (sight_is start n b m kept there));
   };
   frames = none_behind (IsFromMended start) start;

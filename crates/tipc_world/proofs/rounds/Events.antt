@@ -119,34 +119,42 @@ tick_step from number old made new h whole = elim (tick_either number old made n
   | inr ticked ↦ one_ticks number ticked.0 ticked.1
 ]
 
+-- nothing, or the arrival of the frame at this place of a bearer
+abbrev pub ArrivesAt : Places → WorldState → WorldState → ℕ → ℕ → Type 0
+ArrivesAt from old new bearer place = (new ≡ old) ⊎ ((a : FrameArrives from old new) × (a.bearer ≡ bearer) × (a.place ≡ place))
+
 -- an arrival that happened
-arrival_either : (from : Places) (node bearer place : ℕ) (old new : WorldState) (f : Sent) (answered : Answer) → bearer ≤ 1 → place_on bearer from ≤ place → frame_for old.air node bearer place ≡ Some f
-    → IsAnswered old (Arrive node bearer place) new answered → new.lost ≡ false → (new ≡ old) ⊎ FrameArrives from old new
-arrival_either from node bearer place old new f answered on_one behind here done whole = by (nat_lt most_age (age_of old.members f node bearer)) refl
+arrival_at : (from : Places) (node bearer place : ℕ) (old new : WorldState) (f : Sent) (answered : Answer) → bearer ≤ 1 → place_on bearer from ≤ place → frame_for old.air node bearer place ≡ Some f
+    → IsAnswered old (Arrive node bearer place) new answered → new.lost ≡ false → ArrivesAt from old new bearer place
+arrival_at from node bearer place old new f answered on_one behind here done whole = by (nat_lt most_age (age_of old.members f node bearer)) refl
   where
     age : ℕ
     age = age_of old.members f node bearer
 
-    by : (t : Bool) → nat_lt most_age age ≡ t → (new ≡ old) ⊎ FrameArrives from old new
+    by : (t : Bool) → nat_lt most_age age ≡ t → ArrivesAt from old new bearer place
     by true old_one = inl (nothing_arrives old new node bearer place answered (answer.TooOld age) done whole
         (by_its_age old node bearer place f here ∙ ap (λ t. if t then Some (answer.TooOld age) else None) old_one))
-    by false fresh = inr (record {
-      node = node;
-      bearer = bearer;
-      place = place;
-      frame = f;
-      answered = answered;
-      on_one = on_one;
-      behind = behind;
-      found = here;
-      fresh = ltb-false most_age age fresh;
-      arrives = arrival_whole old new node bearer place f answered here done whole fresh;
-    })
+    by false fresh = inr (
+      record {
+        node = node;
+        bearer = bearer;
+        place = place;
+        frame = f;
+        answered = answered;
+        on_one = on_one;
+        behind = behind;
+        found = here;
+        fresh = ltb-false most_age age fresh;
+        arrives = arrival_whole old new node bearer place f answered here done whole fresh;
+      },
+      refl,
+      refl,
+    )
 
 -- a number of the arrivals on a bearer
-pub arrive_either : (from : Places) (bearer number : ℕ) (old : WorldState) (made : Bool) (new : WorldState) → bearer ≤ 1 → place_on bearer from ≤ number / numbers → Takes (arrival_asked Any bearer) number old (Ok made) new
-    → new.lost ≡ false → (new ≡ old) ⊎ FrameArrives from old new
-arrive_either from bearer number old made new on_one behind h whole = by (is_there old node && is_some (frame_for old.air node bearer place)) refl h
+pub arrives_at : (from : Places) (bearer number : ℕ) (old : WorldState) (made : Bool) (new : WorldState) → bearer ≤ 1 → place_on bearer from ≤ number / numbers → Takes (arrival_asked Any bearer) number old (Ok made) new
+    → new.lost ≡ false → ArrivesAt from old new bearer (number / numbers)
+arrives_at from bearer number old made new on_one behind h whole = by (is_there old node && is_some (frame_for old.air node bearer place)) refl h
   where
     place : ℕ
     place = number / numbers
@@ -154,11 +162,18 @@ arrive_either from bearer number old made new on_one behind h whole = by (is_the
     node : ℕ
     node = number % numbers
 
-    by : (t : Bool) → (is_there old node && is_some (frame_for old.air node bearer place)) ≡ t → Maybe (if t then Some (Arrive node bearer place) else None) old (Ok made) new → (new ≡ old) ⊎ FrameArrives from old new
+    by : (t : Bool) → (is_there old node && is_some (frame_for old.air node bearer place)) ≡ t → Maybe (if t then Some (Arrive node bearer place) else None) old (Ok made) new → ArrivesAt from old new bearer place
     by false none h = inl h.1
     by true is h =
         let found = the_some (frame_for old.air node bearer place) (and_parts (is_there old node) (is_some (frame_for old.air node bearer place)) is).1 in
-        arrival_either from node bearer place old new found.0 h.1.0 on_one behind found.1 h.1.1.answered whole
+        arrival_at from node bearer place old new found.0 h.1.0 on_one behind found.1 h.1.1.answered whole
+
+pub arrive_either : (from : Places) (bearer number : ℕ) (old : WorldState) (made : Bool) (new : WorldState) → bearer ≤ 1 → place_on bearer from ≤ number / numbers → Takes (arrival_asked Any bearer) number old (Ok made) new
+    → new.lost ≡ false → (new ≡ old) ⊎ FrameArrives from old new
+arrive_either from bearer number old made new on_one behind h whole = elim (arrives_at from bearer number old made new on_one behind h whole) [
+  | inl same ↦ inl same
+  | inr arrived ↦ inr arrived.0
+]
 
 pub arrive_step : (from : Places) (bearer number : ℕ) (old : WorldState) (made : Bool) (new : WorldState) → bearer ≤ 1 → place_on bearer from ≤ number / numbers → Takes (arrival_asked Any bearer) number old (Ok made) new
     → new.lost ≡ false → RoundStep from old new

@@ -42,7 +42,7 @@ ArrivalsGuarded start from P F = (old new : WorldState) (a : FrameArrives from o
 
 -- ---- one event
 
-guarded_on : (start : WorldState) (from : Places) (P : ℕ → MemberState → Type 0) (F : ℕ → Sent → Type 0) (old new : WorldState) (event : WorldEvent) (bytes : List ℕ) (answered : Answer) (h : HappensWhole old new event bytes answered)
+pub guarded_on : (start : WorldState) (from : Places) (P : ℕ → MemberState → Type 0) (F : ℕ → Sent → Type 0) (old new : WorldState) (event : WorldEvent) (bytes : List ℕ) (answered : Answer) (h : HappensWhole old new event bytes answered)
     → Guards start from P F old → SettlesOn old new → StaysGuarded P F old new event h.after h.frames → Guards start from P F new
 guarded_on start from P F old new event bytes answered h g next s = record {
   on = settles_more start old new g.on next;
@@ -50,17 +50,17 @@ guarded_on start from P F old new event bytes answered h g next s = record {
   frames = more_behind F from old new event bytes answered h g.frames s.sent;
 }
 
-same_guarded : (start : WorldState) (from : Places) (P : ℕ → MemberState → Type 0) (F : ℕ → Sent → Type 0) (old new : WorldState) → new ≡ old → Guards start from P F old → Guards start from P F new
+pub same_guarded : (start : WorldState) (from : Places) (P : ℕ → MemberState → Type 0) (F : ℕ → Sent → Type 0) (old new : WorldState) → new ≡ old → Guards start from P F old → Guards start from P F new
 same_guarded start from P F old new same g = subst (Guards start from P F) (sym same) g
 
 -- ---- the ticks of a round
 
 -- before the tick of a number: the nodes from there on are as they were when the round began, so ready
-record BeforeTick (start : WorldState) (from : Places) (P ready : ℕ → MemberState → Type 0) (F : ℕ → Sent → Type 0) (number : ℕ) (w : WorldState) : Type 0 where
-  guards : Guards start from P F w
-  later : (n : ℕ) (m : MemberState) → number ≤ n → slice_index_or w.members n None ≡ Some m → ready n m
+pub record BeforeTick (start : WorldState) (from : Places) (P ready : ℕ → MemberState → Type 0) (F : ℕ → Sent → Type 0) (number : ℕ) (w : WorldState) : Type 0 where
+  pub guards : Guards start from P F w
+  pub later : (n : ℕ) (m : MemberState) → number ≤ n → slice_index_or w.members n None ≡ Some m → ready n m
 
-one_tick : (start : WorldState) (from : Places) (P ready : ℕ → MemberState → Type 0) (F : ℕ → Sent → Type 0) (number : ℕ) (old new : WorldState) (answered : Answer) → TicksGuarded start from P ready F → old.lost ≡ false
+pub one_tick : (start : WorldState) (from : Places) (P ready : ℕ → MemberState → Type 0) (F : ℕ → Sent → Type 0) (number : ℕ) (old new : WorldState) (answered : Answer) → TicksGuarded start from P ready F → old.lost ≡ false
     → HappensWhole old new (Call number call.Tick) [] answered → BeforeTick start from P ready F number old → BeforeTick start from P ready F (number + 1) new
 one_tick start from P ready F number old new answered each clear h b =
     let next = tick_on old new number answered clear h in record {
@@ -68,7 +68,7 @@ one_tick start from P ready F number old new answered each clear h b =
       later = λ n m above there. b.later n m (omega (arith, above)) (sym (other_stays old new (Call number call.Tick) [] answered h n (λ same. let wrong : ⊥ = omega (arith, above, same) in wrong)) ∙ there);
     }
 
-no_tick : (start : WorldState) (from : Places) (P ready : ℕ → MemberState → Type 0) (F : ℕ → Sent → Type 0) (number : ℕ) (old new : WorldState) → new ≡ old → BeforeTick start from P ready F number old → BeforeTick start from P ready F (number + 1) new
+pub no_tick : (start : WorldState) (from : Places) (P ready : ℕ → MemberState → Type 0) (F : ℕ → Sent → Type 0) (number : ℕ) (old new : WorldState) → new ≡ old → BeforeTick start from P ready F number old → BeforeTick start from P ready F (number + 1) new
 no_tick start from P ready F number old new same b = record {
   guards = same_guarded start from P F old new same b.guards;
   later = λ n m above there. b.later n m (omega (arith, above)) (sym (ap (λ (w : WorldState). slice_index_or w.members n None) same) ∙ there);

@@ -32,7 +32,7 @@ use Rattle.tipc_replay.proofs.casts.Meeting.{becomes_met}
 use Rattle.tipc_replay.proofs.frames.AgedKept.{becomes_aged}
 use Rattle.tipc_replay.proofs.journals.KeptWorlds.{becomes_watched}
 use Rattle.tipc_replay.proofs.names.Sharing.{becomes_shared}
-use Rattle.tipc_replay.proofs.states.EndsKept.{becomes_right}
+use Rattle.tipc_replay.proofs.states.EndsKept.{becomes_bounded, becomes_named, becomes_numbers, becomes_right}
 use Rattle.tipc_replay.proofs.states.PlainKept.{becomes_plain}
 use Rattle.tipc_world.specs.declared.places.Places.{Places}
 use Rattle.tipc_world.specs.Limits.{IsAnswered}
@@ -63,6 +63,9 @@ becomes_steady old new by event answered lost can next h becomes =
       aged = becomes_aged old new by event answered lost h.sound sound becomes h.aged;
       casts = becomes_casting old new by event answered lost h.sound h.met h.plain h.aged next becomes h.casts;
       ends = becomes_right old new by event answered lost can becomes h.ends;
+      bounded = becomes_bounded old new by event answered lost becomes h.bounded;
+      numbers = becomes_numbers old new by event answered lost becomes h.numbers;
+      originals = becomes_named old new by event answered lost becomes h.numbers h.originals;
     }
 
 -- the nodes and the air of a world

@@ -1,19 +1,19 @@
 -- What the arrival of one frame leaves of its node at the end of the round.
-use Rattle.std.proofs.Common.{◌≡◌, ◌≤◌, ◌+◌, ◌*◌, ℕ, false, Some, None, length, slice_index_or, inl, inr, sym, ap, subst, ◌∙◌, arith}
+use Rattle.std.proofs.Common.{◌≡◌, ◌≤◌, ◌+◌, ◌*◌, ℕ, false, Some, None, length, slice_index_or, inl, inr, refl, sym, ap, subst, ◌∙◌, arith}
 use Rattle.std.specs.Prelude.{◌/◌}
 use Rattle.std.proofs.lemmas.Bool.{cases_eq}
 use Rattle.tipc_types.specs.Limits.{most_age}
-use Rattle.tipc_types.specs.declared.node_calls.Answer.{Answer}
 use Rattle.tipc_replay.specs.declared.air.Sent.{Sent}
 use Rattle.tipc_replay.specs.declared.events.WorldEvent.TheVariants.{Arrive}
-use Rattle.tipc_replay.specs.Due.{age_of, frame_for}
+use Rattle.tipc_replay.specs.Due.{age_of}
 use Rattle.tipc_replay.specs.States.{MemberState}
 use Rattle.tipc_replay.proofs.calls.Outcomes.{some_is}
+use Rattle.tipc_replay.proofs.frames.Reaching.{placed}
 use Rattle.tipc_world.specs.declared.places.Places.{Places}
 use Rattle.tipc_world.specs.declared.settling.Receivers.TheVariants.{Any}
 use Rattle.tipc_world.specs.Courses.{Goes, numbers}
 use Rattle.tipc_world.specs.Ends.{place_on, AreBefore}
-use Rattle.tipc_world.specs.RoundParts.{FrameArrives, Guards, HappensWhole, HasArrivedOnce, IsRound, SettlesOn}
+use Rattle.tipc_world.specs.RoundParts.{FrameArrives, Guards, HasArrivedOnce, IsRound, SettlesOn}
 use Rattle.tipc_world.specs.Settling.{arrival_asked}
 use Rattle.tipc_world.specs.States.{WorldState}
 use Rattle.tipc_world.proofs.rounds.Events.{arrive_either}
@@ -63,20 +63,18 @@ arrivals_leave start from P F n Q bearer first outset end count now on_one behin
     goes whole (record { guards = g; there = so }) in
     last.there
 
--- the arrival of a frame makes its node so, and finds it not too old
-pub record Makes (start : WorldState) (from : Places) (P : ℕ → MemberState → Type 0) (F : ℕ → Sent → Type 0) (Q : MemberState → Type 0) (bearer place n : ℕ) (f : Sent) : Type 0 where
-  pub fresh : (w : WorldState) → Guards start from P F w → frame_for w.air n bearer place ≡ Some f → age_of w.members f n bearer ≤ most_age
-  pub makes : (old new : WorldState) (answered : Answer) (h : HappensWhole old new (Arrive n bearer place) f.frame answered) → Guards start from P F old → SettlesOn old new → Q h.after
+-- the arrival of a frame makes its node so
+abbrev pub ArrivalMakes : WorldState → Places → (ℕ → MemberState → Type 0) → (ℕ → Sent → Type 0) → (MemberState → Type 0) → (bearer n : ℕ) → Sent → Type 0
+ArrivalMakes start from P F Q bearer n f = (old new : WorldState) (a : FrameArrives from old new) → a.node ≡ n → a.bearer ≡ bearer → a.frame ≡ f → Guards start from P F old → SettlesOn old new → F a.bearer a.frame → Q a.arrives.after
 
 -- A frame that arrives once leaves its node so at the end of its part, where its arrival makes it so, and no other arrival ends that.
 pub arrival_leaves : (start : WorldState) (from : Places) (P : ℕ → MemberState → Type 0) (F : ℕ → Sent → Type 0) (Q : MemberState → Type 0) (bearer first end : ℕ) (outset now : WorldState) (place n : ℕ) (f : Sent)
-    → bearer ≤ 1 → place_on bearer from ≤ first → first ≤ place → ArrivalsGuarded start from P F → ArrivalsLeave start from P F n Q → Makes start from P F Q bearer place n f → HasArrivedOnce bearer first end outset now place n f
+    → bearer ≤ 1 → place_on bearer from ≤ first → first ≤ place → ArrivalsGuarded start from P F → ArrivalsLeave start from P F n Q → ArrivalMakes start from P F Q bearer n f → (once : HasArrivedOnce bearer first end outset now place n f) → age_of once.before.members f n bearer ≤ most_age
     → now.lost ≡ false → Guards start from P F outset → AtNode n Q now
-arrival_leaves start from P F Q bearer first end outset now place n f on_one behind at each leave does once whole g =
+arrival_leaves start from P F Q bearer first end outset now place n f on_one behind at each leave does once fresh whole g =
     let asks = arrival_asked Any bearer in
     let number = numbers * place + n in
     let g_before = arrivals_guarded start from P F bearer (numbers * first) outset number once.earlier once.before on_one (place_there first (place_on bearer from) behind) each once.front once.clear g in
-    let fresh = does.fresh once.before g_before once.here in
     let h = once.arrives fresh in
     let a : FrameArrives from once.before once.after = record {
       node = n;
@@ -92,7 +90,7 @@ arrival_leaves start from P F Q bearer first end outset now place n f on_one beh
     } in
     let next = arrival_on from once.before once.after once.clear a in
     let g_after = one_arrival start from P F once.before once.after each once.clear a g_before in
-    let so : AtNode n Q once.after = λ m is. subst Q (some_is h.after m (sym (here_is once.before once.after (Arrive n bearer place) f.frame once.answered h) ∙ is)) (does.makes once.before once.after once.answered h g_before next) in
+    let so : AtNode n Q once.after = λ m is. subst Q (some_is h.after m (sym (here_is once.before once.after (Arrive n bearer place) f.frame once.answered h) ∙ is)) (does once.before once.after a refl refl refl g_before next (g_before.frames bearer place f on_one (omega (arith, behind, at)) (placed once.before.air n bearer place f once.here).0)) in
     let later : place_on bearer from ≤ (number + 1) / numbers = omega (arith, behind, at) in
     arrivals_leave start from P F n Q bearer (number + 1) once.after (numbers * end) once.later now on_one later each leave once.rest whole g_after so
 
@@ -100,16 +98,16 @@ arrival_leaves start from P F Q bearer first end outset now place n f on_one beh
 
 -- what a frame on bearer 0 leaves
 pub round_leaves_first : (start : WorldState) (from : Places) (P : ℕ → MemberState → Type 0) (F : ℕ → Sent → Type 0) (Q : MemberState → Type 0) (places : Places) (outset : WorldState) (ends : Places) (now : WorldState) (r : IsRound places outset ends now)
-    (place n : ℕ) (f : Sent) → AreBefore from places → places.first ≤ place → ArrivalsGuarded start from P F → ArrivalsLeave start from P F n Q → Makes start from P F Q 0 place n f
-    → HasArrivedOnce 0 places.first (length r.ticked.air.first) r.ticked r.between place n f → now.lost ≡ false → RoundGuarded start from P F r.ticked r.between now → AtNode n Q now
-round_leaves_first start from P F Q places outset ends now r place n f behind at each leave does once whole g =
+    (place n : ℕ) (f : Sent) → AreBefore from places → places.first ≤ place → ArrivalsGuarded start from P F → ArrivalsLeave start from P F n Q → ArrivalMakes start from P F Q 0 n f
+    → (once : HasArrivedOnce 0 places.first (length r.ticked.air.first) r.ticked r.between place n f) → age_of once.before.members f n 0 ≤ most_age → now.lost ≡ false → RoundGuarded start from P F r.ticked r.between now → AtNode n Q now
+round_leaves_first start from P F Q places outset ends now r place n f behind at each leave does once young whole g =
     let clear_between = goes_whole _ _ r.between _ _ now r.second_part whole in
-    let so = arrival_leaves start from P F Q 0 places.first (length r.ticked.air.first) r.ticked r.between place n f (omega arith) behind.0 at each leave does once clear_between g.ticks in
+    let so = arrival_leaves start from P F Q 0 places.first (length r.ticked.air.first) r.ticked r.between place n f (omega arith) behind.0 at each leave does once young clear_between g.ticks in
     arrivals_leave start from P F n Q 1 (numbers * places.second) r.between (numbers * length r.ticked.air.second) r.others now (omega arith) (place_there places.second from.second behind.1) each leave r.second_part whole g.middle so
 
 -- and what one on bearer 1 leaves
 pub round_leaves_second : (start : WorldState) (from : Places) (P : ℕ → MemberState → Type 0) (F : ℕ → Sent → Type 0) (Q : MemberState → Type 0) (places : Places) (outset : WorldState) (ends : Places) (now : WorldState) (r : IsRound places outset ends now)
-    (place n : ℕ) (f : Sent) → AreBefore from places → places.second ≤ place → ArrivalsGuarded start from P F → ArrivalsLeave start from P F n Q → Makes start from P F Q 1 place n f
-    → HasArrivedOnce 1 places.second (length r.ticked.air.second) r.between now place n f → now.lost ≡ false → RoundGuarded start from P F r.ticked r.between now → AtNode n Q now
-round_leaves_second start from P F Q places outset ends now r place n f behind at each leave does once whole g =
-    arrival_leaves start from P F Q 1 places.second (length r.ticked.air.second) r.between now place n f (omega arith) behind.1 at each leave does once whole g.middle
+    (place n : ℕ) (f : Sent) → AreBefore from places → places.second ≤ place → ArrivalsGuarded start from P F → ArrivalsLeave start from P F n Q → ArrivalMakes start from P F Q 1 n f
+    → (once : HasArrivedOnce 1 places.second (length r.ticked.air.second) r.between now place n f) → age_of once.before.members f n 1 ≤ most_age → now.lost ≡ false → RoundGuarded start from P F r.ticked r.between now → AtNode n Q now
+round_leaves_second start from P F Q places outset ends now r place n f behind at each leave does once young whole g =
+    arrival_leaves start from P F Q 1 places.second (length r.ticked.air.second) r.between now place n f (omega arith) behind.1 at each leave does once young whole g.middle

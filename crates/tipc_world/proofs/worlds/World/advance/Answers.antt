@@ -1,4 +1,4 @@
-use Rattle.std.proofs.Common.{true, subst, sym}
+use Rattle.std.proofs.Common.{subst, sym}
 use Rattle.tipc_replay.specs.States.{ReplayState}
 use Rattle.tipc_replay.specs.Steps.{IsReplayStep}
 use Rattle.tipc_world.specs.Answered.{AreOrderly}

@@ -1,0 +1,283 @@
+-- From a moment of a call on, while what ticks and arrives was sent before it: what each link acknowledged was numbered by then, its session goes on, and no
+-- broadcast link accepts anything. So each link that is up numbers at most a window's packets.
+use Rattle.std.proofs.Common.{◌≡◌, ◌≢◌, ◌≤◌, ◌+◌, ◌∙◌, ℕ, zero, suc, true, List, [], Option, Some, None, slice_index_or, sym, ap, subst, arith}
+use Rattle.std.specs.Prelude.{◌==◌, if◌then◌else◌, map, slice_get}
+use Rattle.tipc_types.specs.declared.node_calls.Answer.{Answer}
+use Rattle.tipc_types.specs.declared.node_calls.EventNote.{EventNote}
+use Rattle.tipc_types.specs.declared.node_calls.EventNote.TheVariants as note
+use Rattle.tipc_outside.specs.declared.outgoing.Outgoing.{Outgoing}
+use Rattle.tipc_header.specs.declared.frames.FrameKind.TheVariants.{Links}
+use Rattle.tipc_header.specs.Frames.{kind_in}
+use Rattle.tipc_header.specs.Spelling.{Fields}
+use Rattle.tipc_journal.specs.Steps.{NodeStep}
+use Rattle.tipc_broadcast.specs.Casting.{accepted}
+use Rattle.tipc_link.specs.Links.{LinkEnd, is_traffic}
+use Rattle.tipc_link.specs.Sessions.{SessionEnd}
+use Rattle.tipc_pair.specs.Facing.{PairEnds, facing, other, turned}
+use Rattle.tipc_pair.specs.PairTurns.{Opening, Suits}
+use Rattle.tipc_pair.specs.PairTurns.Opening.{cuts, hears, makes, mends, rests, ticks}
+use Rattle.tipc_paired.specs.Views.{Frame, epoch_in}
+use Rattle.tipc_two_nodes.specs.Sights.{pair_seen}
+use Rattle.tipc_node.specs.Messages.{bytes_of}
+use Rattle.tipc_node.specs.Nodes.{pair_with}
+use Rattle.tipc_node.specs.Turns.{IsBrought, IsFrom}
+use Rattle.tipc_node.proofs.pairs.Strangers.{kept_abreast}
+use Rattle.tipc_settling.specs.Freshness.{AcknowledgesTo, AreAckedTo, IsAckedEnd, MayAcknowledge}
+use Rattle.tipc_settling.specs.Goings.{EndsGoOn, up_session}
+use Rattle.tipc_settling.specs.Stillness.{IsStill}
+use Rattle.tipc_settling.proofs.Acknowledging.{few_are_numbered, turns_acknowledge_no_more}
+use Rattle.tipc_settling.proofs.AirFresh.{acked_is_numbered, air_acknowledges_numbered}
+use Rattle.tipc_replay.specs.declared.air.Sent.{Sent}
+use Rattle.tipc_replay.specs.declared.events.WorldEvent.TheVariants.{Call}
+use Rattle.tipc_replay.specs.Air.{as_frame, goes}
+use Rattle.tipc_replay.specs.Skies.{air_on}
+use Rattle.tipc_replay.specs.Sound.{IsNumber}
+use Rattle.tipc_replay.specs.States.{MemberState, count_at}
+use Rattle.tipc_replay.specs.Steps.{stage}
+use Rattle.tipc_replay.specs.Views.{sight_at}
+use Rattle.tipc_replay.proofs.LookUps.{member_at-is}
+use Rattle.tipc_replay.proofs.casts.CasterLooks.{casting_at-is}
+use Rattle.tipc_replay.proofs.frames.Coming.{comes_as}
+use Rattle.tipc_replay.proofs.frames.Reaching.{sent_at}
+use Rattle.tipc_world.specs.CalmWorlds.{IsCalmWorld, IsFromMended}
+use Rattle.tipc_world.specs.Ends.{ends_of}
+use Rattle.tipc_world.specs.Poised.{IsPoised}
+use Rattle.tipc_world.specs.RoundParts.{EachNode, FrameArrives, HappensWhole, IsKept}
+use Rattle.tipc_world.specs.States.{WorldState, is_there}
+use Rattle.tipc_world.specs.StillWorlds.{HasHeardAll, footing_at}
+use Rattle.tipc_world.specs.YoungWorlds.{NumbersFew, casts_at, link_count}
+use Rattle.tipc_world.proofs.rounds.Beginning.{its_end}
+use Rattle.tipc_world.proofs.rounds.CalmEvents.{CalmTurn, by_arrival, may_arrive, step_of_arrival, step_of_tick, tick_turn}
+use Rattle.tipc_world.proofs.rounds.CastsKept.{arrival_casts, tick_casts}
+use Rattle.tipc_world.proofs.rounds.Lasting.{ends_then, lasts_on, same_lasts, turn_lasts}
+use Rattle.tipc_world.proofs.rounds.StillWorlds.{node_number, seen_end, sender_there, sight_is, still_epoch}
+use Rattle.tipc_world.proofs.rounds.Traffic.{of_up_link}
+use Rattle.tipc_world.proofs.rounds.UpLinks.{UpSide, both_up, session_near, the_member, up_side}
+
+-- ---- what is carried
+
+-- what a node numbered for node b at a moment, under the epoch that it had then
+abbrev pub most_at : WorldState → ℕ → ℕ → ℕ → ℕ
+most_at base n b bearer = (sight_at base.members base.air n b).numbered bearer (epoch_in (sight_at base.members base.air n b).node.contact ((sight_at base.members base.air n b).ends bearer))
+
+-- node n since a moment of a call
+pub record IsPaced (start base : WorldState) (n : ℕ) (m : MemberState) : Type 0 where
+  pub acked : (b : ℕ) → IsNumber b → n ≢ b → AreAckedTo (most_at base n b) (pair_with m.node b)
+  pub goes : (k : MemberState) → slice_index_or base.members n None ≡ Some k → (b : ℕ) → IsNumber b → n ≢ b → EndsGoOn (pair_with k.node b) (pair_with m.node b)
+  pub casts : accepted m.node.casting.sending ≡ casts_at start n
+
+-- ---- the begin
+
+-- of a node of which it is known what its broadcast link accepted
+pub paced_begins : (start base : WorldState) (n : ℕ) (m : MemberState) → IsKept base → slice_index_or base.members n None ≡ Some m → casts_at base n ≡ casts_at start n → IsPaced start base n m
+paced_begins start base n m kept there casts = record {
+  acked = λ b number apart. subst (AreAckedTo (most_at base n b)) (sight_is base n b m kept there)
+      (acked_is_numbered (sight_at base.members base.air n b) (sight_at base.members base.air b n) (kept.nodes.sound.pairs n b (node_number base n m kept there) number apart));
+  goes = λ k k_there b number apart. (let both : Some m ≡ Some k = sym there ∙ k_there in let same : m ≡ k = cc in same_lasts (pair_with k.node b) (pair_with m.node b) (ap (λ (q : MemberState). pair_with q.node b) same));
+  casts = ap (λ v. accepted v.sending) (sym (casting_at-is base.members n m (member_at-is base.members n m there))) ∙ casts;
+}
+
+-- ---- a turn
+
+-- the packets that may be heard acknowledge no more
+may_acknowledge : (most : ℕ → ℕ) (x : PairEnds) (b : ℕ) (event : EventNote) (bytes : List ℕ) (opening : Opening) → Suits event opening → IsBrought b bytes opening
+    → ((bearer number es er : ℕ) (p : Fields) → event ≡ note.Arrive bearer number → IsFrom b bytes es er p → kind_in bytes ≡ Links → is_traffic p.header ≡ true → AcknowledgesTo (most bearer) (facing bearer x).near p.acknowledgement)
+    → MayAcknowledge most x opening
+may_acknowledge most x b event bytes rests suits brought heard = tt
+may_acknowledge most x b event bytes (makes bearer is_mended) suits brought heard = tt
+may_acknowledge most x b event bytes (mends bearer) suits brought heard = tt
+may_acknowledge most x b event bytes (cuts bearer) suits brought heard = tt
+may_acknowledge most x b event bytes (ticks shown) suits brought heard = tt
+may_acknowledge most x b event bytes (hears bearer es er p by shown) suits brought heard = heard bearer by es er p suits brought.0 brought.1
+
+turn_acks : (start old : WorldState) (n b : ℕ) (m m' : MemberState) (bytes : List ℕ) (s : NodeStep) (frames : List Outgoing) (most : ℕ → ℕ) → CalmTurn start old n b m m' bytes s frames
+    → ((bearer number es er : ℕ) (p : Fields) → s.event ≡ note.Arrive bearer number → IsFrom b bytes es er p → kind_in bytes ≡ Links → is_traffic p.header ≡ true → AcknowledgesTo (most bearer) (facing bearer (pair_with m.node b)).near p.acknowledgement)
+    → AreAckedTo most (pair_with m.node b) → AreAckedTo most (pair_with m'.node b)
+turn_acks start old n b m m' bytes s frames most c heard h =
+    let p = c.turn.turns b in
+    let x = pair_with m.node b in
+    let first = (kept_abreast m.node b c.told).first in
+    turns_acknowledge_no_more most x (pair_with m'.node b) p.opening (map (bytes_of m.node.own) p.messages) p.reply p.own_frames (omega (arith, first)) p.on_one
+    (may_acknowledge most x b s.event bytes p.opening p.suits p.brought heard) p.turn h
+
+-- ---- a tick
+
+pub tick_paced : (start base old new : WorldState) (node : ℕ) (answered : Answer) (h : HappensWhole old new (Call node note.Tick) [] answered) → IsKept old → IsCalmWorld start old → HasHeardAll node h.before → IsPaced start base node h.before
+    → IsPaced start base node h.after
+tick_paced start base old new node answered h kept g heard paced = record {
+  acked = λ b number apart. turn_acks start old node b h.before h.after [] (step_of_tick old new node answered h) h.frames (most_at base node b) (tick_turn start old new node answered h g heard b number apart)
+      (λ bearer place es er p is. absurd (let wrong : note.Tick ≡ note.Arrive bearer place = is in cc)) (paced.acked b number apart);
+  goes = λ k there b number apart. ends_then (pair_with k.node b) (pair_with h.before.node b) (pair_with h.after.node b) (paced.goes k there b number apart)
+      (turn_lasts start old node b h.before h.after [] (step_of_tick old new node answered h) h.frames kept h.was number apart (g.nodes node h.before h.was b number apart) (tick_turn start old new node answered h g heard b number apart));
+  casts = tick_casts _ h.before h.after h.frames answered h.does ∙ paced.casts;
+}
+
+-- ---- counts
+
+-- what the link of an end that is up numbered is what its session did
+count_side : (start w : WorldState) (a b bearer : ℕ) (m : MemberState) → IsKept w → IsNumber a → IsNumber b → a ≢ b → (u : UpSide start w a b bearer m) → link_count start w a b bearer ≡ u.session.sending.numbered
+unfolding sight_at
+count_side start w a b bearer m kept a_is b_is apart u =
+    let h = kept.nodes.sound.pairs a b a_is b_is apart in
+    ap (count_at w.members a b bearer) (sym u.epoch) ∙ h.seen_here.counts bearer u.link.end u.session u.end_is u.has
+
+-- what was numbered at a moment, by the link
+most_is : (start base : WorldState) (n b bearer : ℕ) (m : MemberState) → IsKept base → IsCalmWorld start base → IsNumber b → n ≢ b → bearer ≤ 1 → slice_index_or base.members n None ≡ Some m → most_at base n b bearer ≡ link_count start base n b bearer
+unfolding sight_at
+most_is start base n b bearer m kept g number apart on_one there =
+    let own = footing_at start n b in
+    let peer = footing_at start b n in
+    let v = sight_at base.members base.air n b in
+    let still : IsStill own peer (pair_seen v) = subst (IsStill own peer) (sym (sight_is base n b m kept there)) (g.nodes n m there b number apart).still in
+    let epoch : epoch_in v.node.contact (v.ends bearer) ≡ own.epoch bearer = sym (seen_end v bearer on_one) ∙ still_epoch own peer v bearer on_one still in
+    ap (count_at base.members n b bearer) epoch
+
+-- the session of an end that was up at a moment, and of now
+pub same_session : (o : Option SessionEnd) (s t : SessionEnd) → o ≡ Some s → o ≡ Some t → s ≡ t
+same_session o s t one two = (let both : Some s ≡ Some t = sym one ∙ two in cc)
+
+counts_on : (start base w : WorldState) (n b bearer : ℕ) (k m : MemberState) → IsKept base → IsKept w → IsNumber n → IsNumber b → n ≢ b → bearer ≤ 1 → (before : UpSide start base n b bearer k) → (now : UpSide start w n b bearer m)
+    → EndsGoOn (pair_with k.node b) (pair_with m.node b) → (pair_with k.node b).bearer ≡ 0 → (pair_with m.node b).bearer ≡ 0 → link_count start base n b bearer ≤ link_count start w n b bearer
+counts_on start base w n b bearer k m kept_base kept n_is b_is apart on_one before now goes first first' =
+    let was : up_session (facing bearer (pair_with k.node b)).near ≡ Some before.session = sym (session_near k.node b bearer) ∙ before.in_session in
+    let is : up_session (facing bearer (pair_with m.node b)).near ≡ Some now.session = sym (session_near m.node b bearer) ∙ now.in_session in
+    let on = lasts_on (pair_with k.node b) (pair_with m.node b) bearer first first' on_one goes before.session was in
+    let same = same_session (up_session (facing bearer (pair_with m.node b)).near) on.0 now.session on.1 is in
+    let grew = on.2.goes.numbered in
+    let here = count_side start base n b bearer k kept_base n_is b_is apart before in
+    let there = count_side start w n b bearer m kept n_is b_is apart now in
+    let counts : on.0.sending.numbered ≡ now.session.sending.numbered = ap (λ (s : SessionEnd). s.sending.numbered) same in
+    omega (arith, grew, here, there, counts)
+
+-- what is acknowledged on a bearer
+acked_on : (most : ℕ → ℕ) (x : PairEnds) (bearer : ℕ) (e : LinkEnd) → x.bearer ≡ 0 → bearer ≤ 1 → AreAckedTo most x → (facing bearer x).near ≡ Some e → IsAckedEnd (most bearer) e
+unfolding facing
+acked_on most x zero e first on_one h near =
+    let here : x.near ≡ Some e = ap (λ k. (if k == 0 then x else turned x).near) (sym first) ∙ near in
+    subst (λ k. IsAckedEnd (most k) e) first (its_end (IsAckedEnd (most x.bearer)) x.near e here h.near)
+acked_on most x (suc zero) e first on_one h near =
+    let here : x.far ≡ Some e = ap (λ k. (if k == 1 then x else turned x).near) (sym first) ∙ near in
+    subst (λ k. IsAckedEnd (most (other k)) e) first (its_end (IsAckedEnd (most (other x.bearer))) x.far e here h.far)
+acked_on most x (suc (suc more)) e first on_one h near = absurd (omega (arith, on_one))
+
+-- what a node's journal tells
+pub pair_first : (w : WorldState) (n b : ℕ) (m : MemberState) → IsKept w → slice_index_or w.members n None ≡ Some m → (pair_with m.node b).bearer ≡ 0
+pair_first w n b m kept there = (kept_abreast m.node b (kept.nodes.shared n m there).told).first
+
+-- the two ends of a link that was up, at a moment and now
+record Sides (start base w : WorldState) (a b bearer : ℕ) : Type 0 where
+  was : MemberState
+  was_there : slice_index_or base.members a None ≡ Some was
+  is : MemberState
+  is_there : slice_index_or w.members a None ≡ Some is
+  before : UpSide start base a b bearer was
+  now : UpSide start w a b bearer is
+
+sides : (start base w : WorldState) (a b bearer : ℕ) → IsKept start → IsPoised start → IsCalmWorld start base → IsCalmWorld start w → IsNumber a → IsNumber b → a ≢ b → bearer ≤ 1 → (footing_at start a b).up bearer ≡ true → Sides start base w a b bearer
+sides start base w a b bearer kept_start poised g_base g a_is b_is apart on_one up =
+    let other = both_up start a b bearer kept_start poised apart on_one up in
+    let here = (both_up start b a bearer kept_start poised (λ same. apart (sym same)) on_one other.0).1 in
+    let k = the_member (slice_index_or base.members a None) (g_base.on.nodes a ∙ here) in
+    let m = the_member (slice_index_or w.members a None) (g.on.nodes a ∙ here) in
+    record {
+      was = k.0;
+      was_there = k.1;
+      is = m.0;
+      is_there = m.1;
+      before = up_side start base a b bearer k.0 (g_base.on.kept kept_start) b_is apart on_one k.1 (g_base.nodes a k.0 k.1 b b_is apart) up;
+      now = up_side start w a b bearer m.0 (g.on.kept kept_start) b_is apart on_one m.1 (g.nodes a m.0 m.1 b b_is apart) up;
+    }
+
+-- Each link that is up numbered at most a window's packets since.
+pub numbers_few : (start base w : WorldState) → IsKept start → IsPoised start → IsCalmWorld start base → IsCalmWorld start w → EachNode (IsPaced start base) w → NumbersFew start base w 50
+numbers_few start base w kept_start poised g_base g paced = record {
+  more = λ a b bearer a_is b_is apart on_one up. (
+      let p = sides start base w a b bearer kept_start poised g_base g a_is b_is apart on_one up in
+      counts_on start base w a b bearer p.was p.is (g_base.on.kept kept_start) (g.on.kept kept_start) a_is b_is apart on_one p.before p.now ((paced a p.is p.is_there).goes p.was p.was_there b b_is apart)
+      (pair_first base a b p.was (g_base.on.kept kept_start) p.was_there) (pair_first w a b p.is (g.on.kept kept_start) p.is_there));
+  few = λ a b bearer a_is b_is apart on_one up. (
+      let p = sides start base w a b bearer kept_start poised g_base g a_is b_is apart on_one up in
+      let acked = acked_on (most_at base a b) (pair_with p.is.node b) bearer p.now.link.end (pair_first w a b p.is (g.on.kept kept_start) p.is_there) on_one ((paced a p.is p.is_there).acked b b_is apart) p.now.link.near p.now.link.up p.now.session p.now.has in
+      let few = few_are_numbered (most_at base a b bearer) p.now.session.sending acked in
+      let most = most_is start base a b bearer p.was (g_base.on.kept kept_start) g_base b_is apart on_one p.was_there in
+      let now = count_side start w a b bearer p.is (g.on.kept kept_start) a_is b_is apart p.now in
+      omega (arith, few, most, now));
+}
+
+-- ---- an arrival
+
+-- a frame that stood in the air at a moment, among those that its sender had sent
+sent_then : (base : WorldState) (b n bearer place : ℕ) (f : Sent) → slice_get (air_on bearer base.air) place ≡ Some f → goes b n f ≡ true → (k : ℕ) × (slice_get (sight_at base.members base.air b n).sent k ≡ Some (as_frame bearer f))
+unfolding sight_at
+sent_then base b n bearer place f stood goes_to = (let at = sent_at base.air b n bearer place f stood goes_to in (at.1.0, at.1.1))
+
+-- counts of a sight are those of the world
+told_counts : (base : WorldState) (n b bearer er told : ℕ) → told ≤ (sight_at base.members base.air n b).numbered bearer er → told ≤ count_at base.members n b bearer er
+unfolding sight_at
+told_counts base n b bearer er told low = low
+
+fresh_counts : (old : WorldState) (n b bearer er most : ℕ) → (sight_at old.members old.air n b).numbered bearer er ≤ most + 30000 → count_at old.members n b bearer er ≤ most + 30000
+unfolding sight_at
+fresh_counts old n b bearer er most fresh = fresh
+
+arrival_acks : (start base : WorldState) → IsKept start → IsPoised start → IsCalmWorld start base → (old new : WorldState) (a : FrameArrives (ends_of start.air) old new) → IsCalmWorld start old
+    → IsFromMended start a.bearer a.frame → slice_get (air_on a.bearer base.air) a.place ≡ Some a.frame → IsPaced start base a.node a.arrives.before → is_there base a.node ≡ true → (b : ℕ) → IsNumber b → a.node ≢ b → (es er : ℕ) (p : Fields)
+    → IsFrom b a.frame.frame es er p → kind_in a.frame.frame ≡ Links → is_traffic p.header ≡ true → AcknowledgesTo (most_at base a.node b a.bearer) (facing a.bearer (pair_with a.arrives.before.node b)).near p.acknowledgement
+arrival_acks start base kept_start poised g_base old new a g said stood paced here b number apart es er p brings kind_is traffic =
+    let n = a.node in
+    let bearer = a.bearer in
+    let f = a.frame in
+    let kept = g.on.kept kept_start in
+    let kept_base = g_base.on.kept kept_start in
+    let n_is = node_number old n a.arrives.before kept a.arrives.was in
+    let back : b ≢ n = λ same. apart (sym same) in
+    let sent_by = sender_there old n bearer a.place f b es er p kept a.found brings kind_is in
+    let sender = the_member (slice_index_or old.members b None) sent_by.there in
+    let link = of_up_link start old b n bearer sent_by.place f sender.0 es er p kept_start g said number n_is back a.on_one sent_by.goes_here sender.1 sent_by.sent brings traffic in
+    let stood_at = sent_then base b n bearer a.place f stood sent_by.goes_here in
+    let told = air_acknowledges_numbered (sight_at base.members base.air n b) (sight_at base.members base.air b n) stood_at.0 (as_frame bearer f) es er p (kept_base.nodes.sound.pairs n b n_is number apart) stood_at.1 brings.es_fits brings.er_fits brings.fits brings.frame_is traffic in
+    let came = comes_as (stage old.members old.air) n bearer a.place f b es er p kept.nodes.sound a.found (may_arrive old.members old.air n bearer a.place f a.found a.fresh) brings kind_is in
+    let fresh = came.0.own_fresh traffic in
+    let beside : came.0.frame.peer_numbered ≡ f.peer_numbered = ap (λ (q : Frame). q.peer_numbered) came.1 in
+    let up = both_up start b n bearer kept_start poised back a.on_one link.up in
+    let k = the_member (slice_index_or base.members n None) here in
+    let before = up_side start base n b bearer k.0 kept_base number apart a.on_one k.1 (g_base.nodes n k.0 k.1 b number apart) up.0 in
+    let now = up_side start old n b bearer a.arrives.before kept number apart a.on_one a.arrives.was (g.nodes n a.arrives.before a.arrives.was b number apart) up.0 in
+    let first = pair_first base n b k.0 kept_base k.1 in
+    let first' = pair_first old n b a.arrives.before kept a.arrives.was in
+    let grew = counts_on start base old n b bearer k.0 a.arrives.before kept_base kept n_is number apart a.on_one before now (paced.goes k.0 k.1 b number apart) first first' in
+    let most = most_is start base n b bearer k.0 kept_base g_base number apart a.on_one k.1 in
+    let no_more = told_counts base n b bearer er told.0 told.2 in
+    let at : count_at base.members n b bearer er ≡ link_count start base n b bearer = ap (count_at base.members n b bearer) link.er_is in
+    let fresh_count = fresh_counts old n b bearer er came.0.frame.peer_numbered fresh in
+    let at_old : count_at old.members n b bearer er ≡ link_count start old n b bearer = ap (count_at old.members n b bearer) link.er_is in
+    let recent = told.3 in
+    record {
+      told = told.0;
+      told_is = told.1;
+      no_more = omega (arith, no_more, at, most);
+      lately = λ e s near e_up has. (
+          let same : now.link.end ≡ e = (let both : Some now.link.end ≡ Some e = sym now.link.near ∙ near in cc) in
+          let own : now.session ≡ s = same_session e.session now.session s (ap (λ (q : LinkEnd). q.session) (sym same) ∙ now.has) has in
+          let count = count_side start old n b bearer a.arrives.before kept n_is number apart now in
+          let numbered : now.session.sending.numbered ≡ s.sending.numbered = ap (λ (q : SessionEnd). q.sending.numbered) own in
+          (omega (arith, no_more, at, grew, count, numbered), omega (arith, fresh_count, beside, recent, at_old, count, numbered)));
+    }
+
+pub arrival_paced : (start base : WorldState) → IsKept start → IsPoised start → IsCalmWorld start base → (old new : WorldState) (a : FrameArrives (ends_of start.air) old new) → IsCalmWorld start old
+    → IsFromMended start a.bearer a.frame → slice_get (air_on a.bearer base.air) a.place ≡ Some a.frame → is_there base a.node ≡ true → IsPaced start base a.node a.arrives.before → IsPaced start base a.node a.arrives.after
+arrival_paced start base kept poised g_base old new a g said stood here paced = record {
+  acked = λ b number apart. by_arrival start kept poised old new a g said b number apart (AreAckedTo (most_at base a.node b) (pair_with a.arrives.after.node b))
+      (λ same. subst (AreAckedTo (most_at base a.node b)) (sym same) (paced.acked b number apart))
+      (λ c. turn_acks start old a.node b a.arrives.before a.arrives.after a.frame.frame (step_of_arrival start old new a) a.arrives.frames (most_at base a.node b) c
+      (λ bearer place es er p is brings kind_is traffic. (
+      let arrives : note.Arrive a.bearer _ ≡ note.Arrive bearer place = is in
+      let on : a.bearer ≡ bearer = cc in
+      subst (λ k. AcknowledgesTo (most_at base a.node b k) (facing k (pair_with a.arrives.before.node b)).near p.acknowledgement) on
+      (arrival_acks start base kept poised g_base old new a g said stood paced here b number apart es er p brings kind_is traffic)))
+      (paced.acked b number apart));
+  goes = λ k there b number apart. ends_then (pair_with k.node b) (pair_with a.arrives.before.node b) (pair_with a.arrives.after.node b) (paced.goes k there b number apart)
+      (by_arrival start kept poised old new a g said b number apart (EndsGoOn (pair_with a.arrives.before.node b) (pair_with a.arrives.after.node b)) (same_lasts (pair_with a.arrives.before.node b) (pair_with a.arrives.after.node b))
+      (λ c. turn_lasts start old a.node b a.arrives.before a.arrives.after a.frame.frame (step_of_arrival start old new a) a.arrives.frames (g.on.kept kept) a.arrives.was number apart (g.nodes a.node a.arrives.before a.arrives.was b number apart) c));
+  casts = arrival_casts _ a.bearer a.place a.frame.frame a.arrives.before a.arrives.after a.arrives.frames a.answered a.arrives.does ∙ paced.casts;
+}
