@@ -53,7 +53,7 @@ static int refuses(void)
     return ++asked == failing;
 }
 
-__attribute__((destructor)) static void end(void)
+static void tell(void)
 {
     const char *path = getenv("COUNTED");
     unsigned long memory = asked;
@@ -63,6 +63,16 @@ __attribute__((destructor)) static void end(void)
         fclose(file);
     }
 }
+
+/* The program ends by _exit, which runs no destructor. */
+void _exit(int status)
+{
+    tell();
+    ((void (*)(int))next("_exit"))(status);
+    __builtin_unreachable();
+}
+
+__attribute__((destructor)) static void end(void) { tell(); }
 
 void *malloc(size_t size)
 {
@@ -89,7 +99,7 @@ ssize_t read(int file, void *bytes, size_t size)
     return real(file, bytes, size);
 }
 
-ssize_t write(int file, const void *bytes, size_t size)
+static ssize_t write_bytes(int file, const void *bytes, size_t size)
 {
     static ssize_t (*real)(int, const void *, size_t);
     if (!real) real = next("write");
@@ -102,6 +112,11 @@ ssize_t write(int file, const void *bytes, size_t size)
     }
     return real(file, bytes, size);
 }
+
+/* Programs call it by one of these names. */
+ssize_t write(int file, const void *bytes, size_t size) { return write_bytes(file, bytes, size); }
+
+ssize_t __write(int file, const void *bytes, size_t size) { return write_bytes(file, bytes, size); }
 """
 
 

@@ -10,6 +10,8 @@ pub mod Beginnings
 pub mod Calm
 pub mod Clear
 pub mod ContactSeen
+pub mod EndsMade
+pub mod Finding
 pub mod HeardEnds
 pub mod Hearing
 pub mod Nodes

@@ -9,3 +9,4 @@ pub mod Loads
 pub mod Freshness
 pub mod Repairs
 pub mod Rises
+pub mod Findings

@@ -1,5 +1,5 @@
 -- How a link comes up between two nodes between which nothing goes down: what a RESET, an ACTIVATE and a STATE that show the present make of an end.
-use Rattle.std.specs.Prelude.{◌≡◌, ◌⊎◌, ◌≤◌, ◌<◌, ◌^◌, ◌||◌, ℕ, true, false, All, Contains, List, [], ◌∷◌, ◌++◌, Option, None, Some}
+use Rattle.std.specs.Prelude.{◌≡◌, ◌⊎◌, ◌≤◌, ◌<◌, ◌^◌, ◌||◌, ℕ, true, false, All, Contains, List, [], ◌∷◌, ◌++◌, Option, None, Some, is_some}
 use Rattle.tipc_types.specs.LinkStates.{is_up}
 use Rattle.tipc_types.specs.declared.link_words.BroadcastState.{BroadcastState}
 use Rattle.tipc_types.specs.declared.link_words.LinkState.{LinkState}
@@ -213,3 +213,8 @@ EventsHearUps = (v w : Sight) (own peer : Footing) (n n' : NodeState) (bytes : L
     → IsTold n → NodeTurn n n' bytes s frames → AreSeen v w → pair_seen v ≡ pair_with n b → MayComeTo peer b (pair_with n b) s.event bytes
     → IsStill own peer (pair_with n b) → bearer ≤ 1 → is_up_at (facing bearer (pair_with n' b)).near ≡ true
     → (is_up_at (facing bearer (pair_with n b)).near ≡ true) ⊎ HeardIn own b bearer s.event bytes
+
+-- A link end to node b that was made is there after each event of a node.
+abbrev pub EventsKeepEnds : Type 0
+EventsKeepEnds = (n n' : NodeState) (bytes : List ℕ) (s : NodeStep) (frames : List Outgoing) (b bearer : ℕ) → IsTold n → NodeTurn n n' bytes s frames
+    → is_some (facing bearer (pair_with n b)).near ≡ true → is_some (facing bearer (pair_with n' b)).near ≡ true

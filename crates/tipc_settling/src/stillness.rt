@@ -6,9 +6,10 @@
 ghost use Rattle.tipc_settling.specs.Bearers.{SendsOnMended};
 ghost use Rattle.tipc_settling.specs.Beginnings.{BeginsStill, SendsUnderPresent, ShowsPresentContact, StandsAnew, TrafficTellsUp};
 ghost use Rattle.tipc_settling.specs.Events.{ArrivalsAreCalm, ArrivalsEndSilence, ArrivalsHear, ArrivalsSendUnderPresent, ArrivalsStayStill, EventsAddSilence, EventsAreCalm, EventsSendUnderPresent, EventsStayStill, EventsTellNothing};
+ghost use Rattle.tipc_settling.specs.Findings.{ArrivalsFind, NodesAsk};
 ghost use Rattle.tipc_settling.specs.Freshness.{AckedIsNumbered, AirAcknowledgesNumbered, FewAreNumbered, TurnsAcknowledgeNoMore};
 ghost use Rattle.tipc_settling.specs.Laws.{ActivatesAreHarmless, NumbersAreHarmless, ReleasesAreHarmless, ResetsAreHarmless, TicksAreHarmless, TrafficIsHarmless, TunnelsAreHarmless, TurnsStayStill, TurnsTellNothing};
-ghost use Rattle.tipc_settling.specs.Rises.{ActivatesTakeUp, ArrivalsMakeAnswer, ArrivalsTakeUp, ArrivalsTakeUpAnswering, ArrivalsTellAnswer, ArrivalsTellContact, EventsHearUps, EventsTellAnswer, HeardEndsAnswer, NodesSayNotice, NoticesTellContact, ResetsMakeAnswer, StatesTakeUp, TicksSayNotice, TurnsTellAnswer, UpsWereHeard};
+ghost use Rattle.tipc_settling.specs.Rises.{ActivatesTakeUp, ArrivalsMakeAnswer, ArrivalsTakeUp, ArrivalsTakeUpAnswering, ArrivalsTellAnswer, ArrivalsTellContact, EventsHearUps, EventsKeepEnds, EventsTellAnswer, HeardEndsAnswer, NodesSayNotice, NoticesTellContact, ResetsMakeAnswer, StatesTakeUp, TicksSayNotice, TurnsTellAnswer, UpsWereHeard};
 ghost use Rattle.tipc_settling.specs.Silence.{SilenceGrowsByTicks, TicksSayState, WordsAreTaken, WordsEndSilence};
 
 /// What comes to a link end while its peer has one epoch and one contact number takes nothing down: a RESET or an ACTIVATE that shows both,
@@ -137,6 +138,18 @@ pub fn activates_leave_ends_that_answer()
 pub fn links_go_up_by_what_they_hear()
     ensures turns { UpsWereHeard }
     ensures events { EventsHearUps }
+{}
+
+/// At a tick a node asks who is there on each mended bearer on which no link of it is up then; and a discovery packet that nothing stops leaves an end to
+/// its sender on its bearer.
+pub fn nodes_that_settle_find_one_another()
+    ensures asks { NodesAsk }
+    ensures finds { ArrivalsFind }
+{}
+
+/// A link end that was made stays made, in each event of its node.
+pub fn ends_that_were_made_stay()
+    ensures { EventsKeepEnds }
 {}
 
 /// A link packet of a peer that isn't stopped is heard in a turn of the pair to that peer, whatever becomes of it.

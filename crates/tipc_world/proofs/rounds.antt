@@ -34,8 +34,15 @@ pub mod Rows
 pub mod HeardWorlds
 pub mod PoisedAgain
 pub mod Releasing
+pub mod Windows
+pub mod Acknowledging
 pub mod CalmWalk
 pub mod Measuring
 pub mod Related
 pub mod Answered
 pub mod Rising
+pub mod Notices
+pub mod Stages
+pub mod Comings
+pub mod Meeting
+pub mod ComesUp

@@ -27,7 +27,11 @@ StandsIn w P a b bearer = (m : MemberState) × (slice_index_or w.members a None 
 
 -- ---- at the sender
 
--- the packet at a position was numbered, and is the first that isn't acknowledged, or was acknowledged
+-- the packet at a position was numbered
+abbrev pub WasNumbered : ℕ → SessionEnd → Type 0
+WasNumbered position s = position ≤ s.sending.numbered
+
+-- it was, and is the first that isn't acknowledged, or was acknowledged
 pub record IsAwaited (position : ℕ) (s : SessionEnd) : Type 0 where
   pub numbered : position ≤ s.sending.numbered
   pub first : position ≤ acked_of s.sending + 1

@@ -20,3 +20,5 @@ pub mod Directions
 pub mod Rows
 pub mod Measures
 pub mod RisingWorlds
+pub mod Acknowledged
+pub mod Stages

@@ -10,7 +10,7 @@ use Rattle.tipc_replay.specs.declared.air.Sent.{Sent}
 use Rattle.tipc_replay.specs.Air.{goes}
 use Rattle.tipc_replay.specs.Skies.{air_on}
 use Rattle.tipc_replay.specs.Sound.{IsNumber}
-use Rattle.tipc_replay.specs.States.{MemberState}
+use Rattle.tipc_replay.specs.States.{MemberState, is_mended_at}
 use Rattle.tipc_world.specs.CalmWorlds.{IsFromMended}
 use Rattle.tipc_world.specs.Ends.{ends_of, place_on}
 use Rattle.tipc_world.specs.RoundParts.{Guards}
@@ -43,12 +43,14 @@ IsRisingWorld start most w = Guards start (ends_of start.air) (IsRisingNode star
 abbrev pub left_as : ℕ → Sent → Outgoing
 left_as bearer f = record { bearer = bearer; to = f.to; frame = f.frame }
 
--- Each link that is up is answered by the other end. And of each frame that was sent since the call began, and is an ACTIVATE that shows the
--- present epoch of its receiver, the end of its sender answers that.
+-- Each link that is up is answered by the other end, and its bearer is mended there. And of each frame that was sent since the call began, and is an
+-- ACTIVATE that shows the present epoch of its receiver, the end of its sender answers that.
 pub record AreUpsAnswered (start w : WorldState) : Type 0 where
   pub ups : (a b bearer : ℕ) (m k : MemberState) → slice_index_or w.members a None ≡ Some m → slice_index_or w.members b None ≡ Some k → a ≢ b → bearer ≤ 1
       → is_up_at (facing bearer (pair_with m.node b)).near ≡ true
       → AnswersAt ((footing_at start a b).epoch bearer) (facing bearer (pair_with k.node a)).near
+  pub mended : (a b bearer : ℕ) (m : MemberState) → slice_index_or w.members a None ≡ Some m → IsNumber b → a ≢ b → bearer ≤ 1
+      → is_up_at (facing bearer (pair_with m.node b)).near ≡ true → is_mended_at start.members b bearer ≡ true
   pub told : (bearer place : ℕ) (f : Sent) (s d : ℕ) (k : MemberState) → bearer ≤ 1 → place_on bearer (ends_of start.air) ≤ place
       → slice_get (air_on bearer w.air) place ≡ Some f → goes s d f ≡ true → IsNumber d → s ≢ d → slice_index_or w.members s None ≡ Some k
       → ShowsAnswering (footing_at start d s) (pair_with k.node d) (left_as bearer f)

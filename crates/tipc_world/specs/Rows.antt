@@ -1,8 +1,9 @@
 -- What the rounds of a call make of a packet that was numbered on a link that is up, whatever was lost before: it is released after four of them.
-use Rattle.std.specs.Prelude.{◌≡◌, ◌≢◌, ◌⊎◌, ◌≤◌, ◌+◌, ℕ, true, false}
+use Rattle.std.specs.Prelude.{◌≡◌, ◌≢◌, ◌⊎◌, ◌≤◌, ◌+◌, ◌*◌, ℕ, true, false}
+use Rattle.tipc_types.specs.Limits.{window_size}
 use Rattle.tipc_replay.specs.Sound.{IsNumber}
 use Rattle.tipc_world.specs.declared.places.Places.{Places}
-use Rattle.tipc_world.specs.Directions.{IsAwaited, IsReleased, HasBeenShown, WasTaken, IsOnItsWay, StandsIn}
+use Rattle.tipc_world.specs.Directions.{IsAwaited, IsReleased, HasBeenShown, WasNumbered, WasTaken, IsOnItsWay, StandsIn}
 use Rattle.tipc_world.specs.Poised.{IsPoised}
 use Rattle.tipc_world.specs.RoundParts.{IsKept, MoreRounds}
 use Rattle.tipc_world.specs.Settling.{Rounds}
@@ -39,3 +40,9 @@ abbrev pub FourRoundsRelease : Type 0
 FourRoundsRelease = (start : WorldState) (done : ℕ) (places : Places) (outset : WorldState) (ends : Places) (now : WorldState) (a b bearer position : ℕ)
     → IsKept start → IsPoised start → Rounds start done places outset → MoreRounds done places outset (done + 4) ends now → now.lost ≡ false
     → WasUp start a b bearer → StandsIn outset (IsAwaited position) a b bearer → StandsIn now (IsReleased position) a b bearer
+
+-- So four rounds for each packet of a window release whatever was numbered.
+abbrev pub WindowsAreReleased : Type 0
+WindowsAreReleased = (start : WorldState) (done : ℕ) (places : Places) (outset : WorldState) (ends : Places) (now : WorldState) (a b bearer position : ℕ)
+    → IsKept start → IsPoised start → Rounds start done places outset → MoreRounds done places outset (done + 4 * window_size) ends now
+    → now.lost ≡ false → WasUp start a b bearer → StandsIn outset (WasNumbered position) a b bearer → StandsIn now (IsReleased position) a b bearer

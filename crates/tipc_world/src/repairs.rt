@@ -6,18 +6,20 @@ ghost use Rattle.tipc_world.specs.HeardWorlds.{BeginsRound};
 ghost use Rattle.tipc_world.specs.Measures.{NoMoreIsUnderWay};
 ghost use Rattle.tipc_world.specs.Poised.{IsPoised};
 ghost use Rattle.tipc_world.specs.RoundParts.{IsKept, IsRound};
-ghost use Rattle.tipc_world.specs.Rows.{FourRoundsRelease, RoundBrings, WasUp};
+ghost use Rattle.tipc_world.specs.Rows.{FourRoundsRelease, RoundBrings, WasUp, WindowsAreReleased};
 ghost use Rattle.tipc_world.specs.Settling.{Rounds};
 ghost use Rattle.tipc_world.specs.States.{WorldState};
 
 /// What each round of a call that began in a poised world makes of a packet that was numbered on a link that is up, whatever was lost before: its receiver
 /// is shown that it was numbered; the receiver asks for it, and it is sent again; it is taken; and it is released. Nothing of it is undone, so four
-/// rounds release the first packet that isn't acknowledged. (TIPC 2.0 draft: gaps in STATE messages; the rounds are this project's profile.)
+/// rounds release the first packet that isn't acknowledged, and four for each packet of a window whatever was numbered. (TIPC 2.0 draft: gaps in STATE
+/// messages; the rounds are this project's profile.)
 pub fn a_lost_packet_comes_in_four_rounds()
     ensures round { (start : WorldState) (places : Places) (outset : WorldState) (ends : Places) (now : WorldState) (a b bearer position : ℕ)
         → IsRound places outset ends now → BeginsRound start places outset now → WasUp start a b bearer
         → RoundBrings start places outset ends now a b bearer position }
     ensures release { FourRoundsRelease }
+    ensures window { WindowsAreReleased }
 {}
 
 /// While a world that was poised settles, no more is under way than when the call began: of all nodes together, their packets and the weight of what they

@@ -1,9 +1,11 @@
 //! Frames that arrive where they are for, and rounds of ticks and arrivals until nothing is under way.
 
 ghost use Rattle.std.specs.Prelude.{◌≡◌, ◌≤◌, ◌+◌, ◌*◌, true, if◌then◌else◌, is_some, IfOk, IfSome, OnOk};
+ghost use Rattle.tipc_world.specs.Acknowledged.{AllIsAcknowledged};
 ghost use Rattle.tipc_world.specs.Courses.{numbers, Continues, Maybe, Takes, TakesAll, TakesCounted};
 ghost use Rattle.tipc_world.specs.Ends.{ends_of, AreBefore};
 ghost use Rattle.tipc_world.specs.Good.{IsGood};
+ghost use Rattle.tipc_world.specs.Measures.{NoMoreIsUnderWay};
 ghost use Rattle.tipc_world.specs.Poised.{IsPoised, StaysPoised};
 ghost use Rattle.tipc_replay.specs.Due.{frame_for};
 ghost use Rattle.tipc_replay.specs.Readers.{world_load};
@@ -336,6 +338,9 @@ impl<P: Pick> World<P> {
         ensures continues { Continues P.gives self.old self.new }
         ensures good { IsGood P.gives self.new }
         ensures poised { OnOk result (IsPoised self.old.state → StaysPoised self.old.state self.new.state) }
+        ensures under_way { OnOk result (IsPoised self.old.state → NoMoreIsUnderWay self.old.state self.new.state) }
+        ensures acknowledged { OnOk result (IsPoised self.old.state → 200 ≤ rounds
+            → AllIsAcknowledged self.old.state self.new.state) }
     {
         self.kept();
         let settled = self.go_round(alloc, rounds);

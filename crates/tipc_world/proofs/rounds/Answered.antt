@@ -34,7 +34,7 @@ use Rattle.tipc_replay.specs.Air.{airborne, as_frame, goes}
 use Rattle.tipc_replay.specs.Calls.{node_of}
 use Rattle.tipc_replay.specs.Skies.{air_on}
 use Rattle.tipc_replay.specs.Sound.{IsNumber}
-use Rattle.tipc_replay.specs.States.{MemberState, contact_at}
+use Rattle.tipc_replay.specs.States.{MemberState, contact_at, is_mended_at}
 use Rattle.tipc_replay.specs.Views.{sight_at}
 use Rattle.tipc_replay.proofs.calls.Outcomes.{some_is}
 use Rattle.tipc_replay.proofs.InLists.{all_at, stands_passing}
@@ -61,6 +61,7 @@ pub record IsAnsweredEvent (start old new : WorldState) (event : WorldEvent) (by
   pub comes : (b : ℕ) → IsNumber b → node_of event ≢ b → MayComeTo (footing_at start b (node_of event)) b (pair_with h.before.node b) s.event bytes
   pub hears : (b bearer : ℕ) (k : MemberState) → node_of event ≢ b → bearer ≤ 1 → slice_index_or old.members b None ≡ Some k → HeardIn (footing_at start (node_of event) b) b bearer s.event bytes
       → AnswersAt ((footing_at start (node_of event) b).epoch bearer) (facing bearer (pair_with k.node (node_of event))).near
+  pub mends : (b bearer : ℕ) → node_of event ≢ b → bearer ≤ 1 → HeardIn (footing_at start (node_of event) b) b bearer s.event bytes → is_mended_at start.members b bearer ≡ true
 
 module _ (start old new : WorldState) (event : WorldEvent) (bytes : List ℕ) (answered : Answer) (h : HappensWhole old new event bytes answered) (s : NodeStep) (k : IsAnsweredEvent start old new event bytes answered h s) where
   abbrev n : ℕ
@@ -119,6 +120,21 @@ module _ (start old new : WorldState) (event : WorldEvent) (bytes : List ℕ) (a
           (subst (λ (q : MemberState). AnswersAt ((footing_at start a n).epoch bearer) (facing bearer (pair_with q.node a)).near) is now)
       by (inr away) (inr off) = r.ups a b bearer m l (member_before a m away one) (member_before b l off two) apart on_one up
 
+  mended_after : AreUpsAnswered start old → (a b bearer : ℕ) (m : MemberState) → slice_index_or new.members a None ≡ Some m → IsNumber b → a ≢ b → bearer ≤ 1 → is_up_at (facing bearer (pair_with m.node b)).near ≡ true → is_mended_at start.members b bearer ≡ true
+  mended_after r a b bearer m one number apart on_one up = by (cases_eq a n)
+    where
+      by : (a ≡ n) ⊎ (a ≡ n → ⊥) → is_mended_at start.members b bearer ≡ true
+      by (inr away) = r.mended a b bearer m (member_before a m away one) number apart on_one up
+      by (inl here) =
+          let away : n ≢ b = λ same. apart (here ∙ same) in
+          let is : h.after ≡ m = member_after m (ap (λ j. slice_index_or new.members j None) (sym here) ∙ one) in
+          let still_up : is_up_at (facing bearer (pair_with h.after.node b)).near ≡ true = ap (λ (q : MemberState). is_up_at (facing bearer (pair_with q.node b)).near) is ∙ up in
+          elim (events_hear_ups (sight_at old.members old.air n b) (sight_at old.members old.air b n) (footing_at start n b) (footing_at start b n) h.before.node h.after.node bytes s h.frames b bearer k.told k.turn
+          (k.kept.nodes.sound.pairs n b n_is number away) (sight_is old n b h.before k.kept h.was) (k.comes b number away) (k.still b number away) on_one still_up) [
+            | inl was ↦ r.mended n b bearer h.before h.was number away on_one was
+            | inr heard ↦ k.mends b bearer away on_one heard
+          ]
+
   -- what left in the event
   left_tells : (j : ℕ) (o : Outgoing) (sender d : ℕ) (m : MemberState) → slice_get h.frames j ≡ Some o → goes sender d (airborne (contact_at old.members n) new.members n o) ≡ true → IsNumber d → sender ≢ d
       → slice_index_or new.members sender None ≡ Some m → ShowsAnswering (footing_at start d sender) (pair_with m.node d) o
@@ -154,6 +170,7 @@ module _ (start old new : WorldState) (event : WorldEvent) (bytes : List ℕ) (a
   pub answered_on : AreUpsAnswered start old → AreUpsAnswered start new
   answered_on r = record {
     ups = ups_after r;
+    mended = mended_after r;
     told = λ bearer place f sender d m on_one behind at goes_to number apart there. by bearer place f sender d m on_one behind goes_to number apart there (comes_from old new event bytes answered h bearer place f on_one at);
   }
     where

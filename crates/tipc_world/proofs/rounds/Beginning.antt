@@ -88,7 +88,7 @@ more_contacts w a b kept = by (pair_at w.members a b) refl
 -- ---- links that are up
 
 -- there are two bearers
-end_two : (bearer : ℕ) (o : Option PairEnds) (e : LinkEnd) → end_on bearer o ≡ Some e → bearer ≤ 1
+pub end_two : (bearer : ℕ) (o : Option PairEnds) (e : LinkEnd) → end_on bearer o ≡ Some e → bearer ≤ 1
 end_two bearer None e is = absurd cc
 end_two bearer (Some x) e is = by (nat_le bearer 1) refl is
   where

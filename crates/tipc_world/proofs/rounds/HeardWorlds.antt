@@ -74,11 +74,11 @@ abbrev lone : PairEnds → Footing
 lone x = record { contact = x.contact; epoch = λ bearer. x.contact; up = λ bearer. false; answers = λ bearer. false; free = λ bearer. false; sees = false; alone = false }
 
 -- a pair is still on some footings, and its links were heard
-record IsAnyStill (x : PairEnds) : Type 0 where
-  own : Footing
-  peer : Footing
-  still : IsStill own peer x
-  heard : AreHeard x
+pub record IsAnyStill (x : PairEnds) : Type 0 where
+  pub own : Footing
+  pub peer : Footing
+  pub still : IsStill own peer x
+  pub heard : AreHeard x
 
 alone_still : (own word boot : ℕ) → IsAnyStill (alone own word boot)
 alone_still own word boot =
@@ -96,7 +96,7 @@ alone_still own word boot =
       heard = record { near = omega arith; far = omega arith };
     }
 
-stranger_still : (n : NodeState) (b : ℕ) → neighbour_of n b ≡ None → IsAnyStill (pair_with n b)
+pub stranger_still : (n : NodeState) (b : ℕ) → neighbour_of n b ≡ None → IsAnyStill (pair_with n b)
 stranger_still n b none = subst (λ o. IsAnyStill (acquaintance n b o).pair) (sym none) (alone_still n.own (node_word b) n.boot)
 
 -- a node knows no neighbour where it has no pair
@@ -104,7 +104,7 @@ no_pair : (o : Option Neighbour) → option_map (λ (x : Neighbour). x.pair) o �
 no_pair None none = refl
 no_pair (Some x) none = absurd cc
 
-unknown : (w : WorldState) (n b : ℕ) (m : MemberState) → slice_index_or w.members n None ≡ Some m → pair_at w.members n b ≡ None → neighbour_of m.node b ≡ None
+pub unknown : (w : WorldState) (n b : ℕ) (m : MemberState) → slice_index_or w.members n None ≡ Some m → pair_at w.members n b ≡ None → neighbour_of m.node b ≡ None
 unknown w n b m there none = no_pair (neighbour_of m.node b) (sym (pair_at-is w.members n b m (member_at-is w.members n m there)) ∙ none)
 
 each_still : (start w : WorldState) (n b : ℕ) (m : MemberState) → IsKept w → slice_index_or w.members n None ≡ Some m → IsCalmNode start n m → HasHeardAll n m → IsAnyStill (pair_with m.node b)
@@ -125,7 +125,7 @@ each_still start w n b m kept there calm heard = elim (cases_lt b 1) [
 -- ---- what a tick says
 
 -- the end of a sight on a bearer is that of the pair
-seen_near : (v : Sight) (bearer : ℕ) {x : PairEnds} {e : LinkEnd} → bearer ≤ 1 → pair_seen v ≡ x → (facing bearer x).near ≡ Some e → v.ends bearer ≡ Some e
+pub seen_near : (v : Sight) (bearer : ℕ) {x : PairEnds} {e : LinkEnd} → bearer ≤ 1 → pair_seen v ≡ x → (facing bearer x).near ≡ Some e → v.ends bearer ≡ Some e
 seen_near v bearer on_one same near = sym (sight_near v bearer on_one) ∙ (ap (λ (y : PairEnds). (facing bearer y).near) same ∙ near)
 
 -- the present epoch of a still node on a bearer
@@ -136,16 +136,16 @@ present_end start w b n bearer m kept on_one there still =
     sym (seen_end v bearer on_one) ∙ still_epoch (footing_at start b n) (footing_at start n b) v bearer on_one (subst (IsStill (footing_at start b n) (footing_at start n b)) (sym (sight_is w b n m kept there)) still)
 
 -- the peer of a sight
-sight_peer : (w : WorldState) (b n : ℕ) → (sight_at w.members w.air b n).node.peer ≡ node_word n
+pub sight_peer : (w : WorldState) (b n : ℕ) → (sight_at w.members w.air b n).node.peer ≡ node_word n
 unfolding sight_at
 sight_peer w b n = refl
 
-sight_own : (w : WorldState) (b n : ℕ) → (sight_at w.members w.air b n).node.own ≡ node_word b
+pub sight_own : (w : WorldState) (b n : ℕ) → (sight_at w.members w.air b n).node.own ≡ node_word b
 unfolding sight_at
 sight_own w b n = refl
 
 -- what stands at a place of a list
-slice_there : {A : Type 0} (xs : List A) (k : ℕ) (x : A) → k < length xs → get_or xs k x ≡ x → slice_get xs k ≡ Some x
+pub slice_there : {A : Type 0} (xs : List A) (k : ℕ) (x : A) → k < length xs → get_or xs k x ≡ x → slice_get xs k ≡ Some x
 slice_there xs k x within is = slice_get-get_or xs k x within ∙ ap Some is
 
 -- among the frames of a tick one says to node n, on a bearer, what ticks say of a link that is up

@@ -56,12 +56,12 @@ paired_or_none a b = elim (cases_lt b 1) [
 -- ---- where links are up
 
 -- the link end of a node, as it is seen
-link_seen : (w : WorldState) (a b bearer : ℕ) → (sight_at w.members w.air a b).ends bearer ≡ link_at w.members a b bearer
+pub link_seen : (w : WorldState) (a b bearer : ℕ) → (sight_at w.members w.air a b).ends bearer ≡ link_at w.members a b bearer
 unfolding sight_at
 link_seen w a b bearer = refl
 
 -- it is the node's
-end_is : (w : WorldState) (a b bearer : ℕ) (m : MemberState) → IsKept w → bearer ≤ 1 → slice_index_or w.members a None ≡ Some m → (facing bearer (pair_with m.node b)).near ≡ link_at w.members a b bearer
+pub end_is : (w : WorldState) (a b bearer : ℕ) (m : MemberState) → IsKept w → bearer ≤ 1 → slice_index_or w.members a None ≡ Some m → (facing bearer (pair_with m.node b)).near ≡ link_at w.members a b bearer
 end_is w a b bearer m kept on_one there =
     ap (λ (x : PairEnds). (facing bearer x).near) (sym (sight_is w a b m kept there)) ∙ (sight_near (sight_at w.members w.air a b) bearer on_one ∙ link_seen w a b bearer)
 
@@ -167,7 +167,7 @@ towards start places now a b bearer e d kept_start h a_is b_is apart on_one near
     let silent : silence_in (Some e) ≡ e.fsm.silent = ap (λ t. if t then e.fsm.silent else 0) up in
     record { up = up; knows = knows ∙ ap Some (sym present); heard = λ four. omega (arith, low, silent, four) }
 
-number_there : (w : WorldState) (a : ℕ) → IsKept w → has_member w.members a ≡ true → IsNumber a
+pub number_there : (w : WorldState) (a : ℕ) → IsKept w → has_member w.members a ≡ true → IsNumber a
 number_there w a kept here = let m = the_some (slice_index_or w.members a None) here in (kept.nodes.sound.numbered a m.0 m.1).0
 
 stands_on : (start : WorldState) (places : Places) (now : WorldState) (a b bearer : ℕ) → IsKept start → IsPoised start → StandsCalm start places now → has_member now.members a ≡ true → has_member now.members b ≡ true → a ≢ b → bearer ≤ 1 → LinkStands start.members a b bearer

@@ -4,7 +4,8 @@ use Rattle.std.proofs.Common.{◌≡◌, ◌≤◌, ◌+◌, ℕ, zero, suc, fal
 use Rattle.tipc_world.specs.declared.places.Places.{Places}
 use Rattle.tipc_world.specs.Directions.{IsAwaited, IsReleased, WasTaken, IsOnItsWay, StandsIn}
 use Rattle.tipc_world.specs.HeardWorlds.{BeginsRound}
-use Rattle.tipc_world.specs.RoundParts.{IsRound, MoreRounds, none_more, one_more}
+use Rattle.tipc_world.specs.Poised.{IsPoised}
+use Rattle.tipc_world.specs.RoundParts.{IsKept, IsRound, MoreRounds, none_more, one_more}
 use Rattle.tipc_world.specs.Rows.{FourRoundsRelease, IsKnown, RoundBrings, WasUp}
 use Rattle.tipc_world.specs.Settling.{Round, Rounds, go_on}
 use Rattle.tipc_world.specs.States.{WorldState}
@@ -18,7 +19,7 @@ use Rattle.tipc_world.proofs.rounds.Young.{round_young}
 -- ---- one round
 
 -- what a round begins with
-calm_round : (start : WorldState) (places : Places) (outset : WorldState) (ends : Places) (now : WorldState) (r : IsRound places outset ends now) → BeginsRound start places outset now → CalmRound start places outset ends now r
+pub calm_round : (start : WorldState) (places : Places) (outset : WorldState) (ends : Places) (now : WorldState) (r : IsRound places outset ends now) → BeginsRound start places outset now → CalmRound start places outset ends now r
 calm_round start places outset ends now r k = record {
   kept = k.kept;
   poised = k.poised;
@@ -69,12 +70,12 @@ further start places outset ends now a b bearer position r (suc (suc (suc zero))
 further start places outset ends now a b bearer position r (suc (suc (suc (suc more)))) released = r.lasts released
 
 -- rounds behind others
-rounds_join : (start : WorldState) (made : ℕ) (first : Places) (between : WorldState) (rounds : ℕ) (places : Places) (now : WorldState) → Rounds start made first between → MoreRounds made first between rounds places now → Rounds start rounds places now
+pub rounds_join : (start : WorldState) (made : ℕ) (first : Places) (between : WorldState) (rounds : ℕ) (places : Places) (now : WorldState) → Rounds start made first between → MoreRounds made first between rounds places now → Rounds start rounds places now
 rounds_join start made first between _ _ _ front none_more = front
 rounds_join start made first between _ _ _ front (one_more done places before ends now rest round) = go_on done places before ends now (rounds_join start made first between done places before front rest) round
 
 -- what each of them keeps
-more_keep : (start : WorldState) (K : ℕ → Places → WorldState → Type 0) (made : ℕ) (first : Places) (between : WorldState) (rounds : ℕ) (places : Places) (now : WorldState) → Rounds start made first between
+pub more_keep : (start : WorldState) (K : ℕ → Places → WorldState → Type 0) (made : ℕ) (first : Places) (between : WorldState) (rounds : ℕ) (places : Places) (now : WorldState) → Rounds start made first between
     → ((done : ℕ) (at : Places) (before : WorldState) (ends : Places) (after : WorldState) → made ≤ done → Rounds start done at before → Round at before (Ok ends) after → after.lost ≡ false → K done at before → K (done + 1) ends after)
     → MoreRounds made first between rounds places now → now.lost ≡ false → K made first between → (made ≤ rounds) × K rounds places now
 more_keep start K made first between _ _ _ front each none_more whole h = (omega arith, h)
@@ -83,6 +84,13 @@ more_keep start K made first between _ _ _ front each (one_more done places befo
     let so_far = more_keep start K made first between done places before front each rest clear h in
     let above = so_far.0 in
     (omega (arith, above), each done places before ends now above (rounds_join start made first between done places before front rest) round whole so_far.1)
+
+-- what stands when a round of a call begins
+pub begins_there : (start : WorldState) (rounds : ℕ) (at : Places) (before : WorldState) (next : Places) (after : WorldState) → IsKept start → IsPoised start → Rounds start rounds at before → IsRound at before next after → after.lost ≡ false → BeginsRound start at before after
+begins_there start rounds at before next after kept poised so_far r clear =
+    let was_clear = round_whole at before next after r clear in
+    let goes = settling_goes_on start rounds at before so_far was_clear in
+    record { kept = kept; poised = poised; behind = goes.behind; within = goes.within; so_far = call_stays_calm start rounds at before kept poised so_far was_clear; whole = clear }
 
 pub four_rounds_release : FourRoundsRelease
 four_rounds_release start done places outset ends now a b bearer position kept poised front rest whole u due =
@@ -102,8 +110,6 @@ four_rounds_release start done places outset ends now a b bearer position kept p
         → IsFar start a b bearer position (rounds + 1 - done) next after
     each rounds at before next after from so_far round clear h =
         let r = round_parts at before next after round in
-        let was_clear = round_whole at before next after r clear in
-        let goes = settling_goes_on start rounds at before so_far was_clear in
-        let begins : BeginsRound start at before after = record { kept = kept; poised = poised; behind = goes.behind; within = goes.within; so_far = call_stays_calm start rounds at before kept poised so_far was_clear; whole = clear } in
+        let begins = begins_there start rounds at before next after kept poised so_far r clear in
         subst (λ k. IsFar start a b bearer position k next after) (sym (one_further done rounds from))
         (further start at before next after a b bearer position (round_brings start at before next after a b bearer position r begins u) (rounds - done) h)

@@ -1,5 +1,5 @@
 -- While a world settles in which no link was up, nothing goes down in its first four rounds, and each link that is up is answered.
-use Rattle.std.proofs.Common.{◌≡◌, ◌≤◌, ◌+◌, ◌∙◌, ℕ, zero, suc, false, [], Option, Some, None, length, slice_get, refl, sym, ap, subst, arith}
+use Rattle.std.proofs.Common.{◌≡◌, ◌≢◌, ◌≤◌, ◌+◌, ◌∙◌, ℕ, zero, suc, Bool, true, false, [], Option, Some, None, inl, inr, length, slice_get, refl, sym, ap, subst, arith}
 use Rattle.std.proofs.lemmas.Bool.{true≢false}
 use Rattle.tipc_types.specs.declared.link_words.Why.{Why}
 use Rattle.tipc_types.specs.declared.node_calls.Answer.TheVariants as answer
@@ -12,19 +12,21 @@ use Rattle.tipc_pair.proofs.turns.Moves.{down_silence}
 use Rattle.tipc_two_nodes.specs.Sights.{pair_seen}
 use Rattle.tipc_settling.specs.Rises.{AnswersAt, ShowsAnswering}
 use Rattle.tipc_settling.specs.Stillness.{AreHeard}
+use Rattle.tipc_settling.proofs.AnswersTold.{events_hear_ups}
 use Rattle.tipc_settling.proofs.Nodes.{events_add_silence}
 use Rattle.tipc_node.specs.Nodes.{NodeState, pair_with, step_of, stop_of}
 use Rattle.tipc_node.specs.Sockets.{kept_answer}
 use Rattle.tipc_node.proofs.pairs.Strangers.{kept_abreast}
 use Rattle.tipc_replay.specs.declared.events.WorldEvent.TheVariants.{Arrive, Call}
-use Rattle.tipc_replay.specs.States.{MemberState}
+use Rattle.tipc_replay.specs.Sound.{IsNumber}
+use Rattle.tipc_replay.specs.States.{MemberState, is_mended_at}
 use Rattle.tipc_replay.specs.Views.{sight_at}
 use Rattle.tipc_world.specs.declared.places.Places.{Places}
 use Rattle.tipc_world.specs.CalmWorlds.{IsFromMended}
 use Rattle.tipc_world.specs.Ends.{ends_of, AreBefore}
 use Rattle.tipc_world.specs.Poised.{IsDownWorld}
 use Rattle.tipc_world.specs.RisingWorlds.{AreSilentFor, AreUpsAnswered, IsRisingNode, IsRisingPair, IsRisingWorld, IsSilentFor, left_as}
-use Rattle.tipc_world.specs.RoundParts.{IsKept, IsRound}
+use Rattle.tipc_world.specs.RoundParts.{EachNode, IsKept, IsRound}
 use Rattle.tipc_world.specs.States.{WorldState}
 use Rattle.tipc_world.specs.StillWorlds.{HasHeardAll, IsStillWorld, IsUnderPresent, footing_at}
 use Rattle.tipc_world.specs.Steps.{by_in}
@@ -35,7 +37,7 @@ use Rattle.tipc_world.proofs.rounds.Flying.{none_behind}
 use Rattle.tipc_world.proofs.rounds.Guarded.{ArrivalsGuarded, StaysGuarded, TicksGuarded}
 use Rattle.tipc_world.proofs.rounds.Keeping.{settles_same}
 use Rattle.tipc_world.proofs.rounds.Related.{ArrivalsRelate, RoundRelates, TicksRelate, round_related}
-use Rattle.tipc_world.proofs.rounds.StillWorlds.{arrival_still, begins_still_all, shows_present, sight_is, tick_still}
+use Rattle.tipc_world.proofs.rounds.StillWorlds.{arrival_still, begins_still_all, node_number, sender_there, shows_present, sight_is, tick_still}
 
 -- ---- silence
 
@@ -71,10 +73,10 @@ rising_longer start most w g = record {
 
 -- ---- an event
 
-heard_all : (most n : ℕ) (m : MemberState) → most ≤ 3 → ((b : ℕ) → (pair_with m.node b).bearer ≡ 0) → AreSilentFor most n m → HasHeardAll n m
+pub heard_all : (most n : ℕ) (m : MemberState) → most ≤ 3 → ((b : ℕ) → (pair_with m.node b).bearer ≡ 0) → AreSilentFor most n m → HasHeardAll n m
 heard_all most n m few firsts silent b number apart = heard_of most (pair_with m.node b) (firsts b) few (silent b number apart)
 
-rising_tick : (start : WorldState) (most : ℕ) → IsKept start → most ≤ 3 → TicksGuarded start (ends_of start.air) (IsRisingNode start (most + 1)) (AreSilentFor most) (IsFromMended start)
+pub rising_tick : (start : WorldState) (most : ℕ) → IsKept start → most ≤ 3 → TicksGuarded start (ends_of start.air) (IsRisingNode start (most + 1)) (AreSilentFor most) (IsFromMended start)
 rising_tick start most kept few old new node answered h g next ready =
     let still = rising_is_still start (most + 1) old g in
     let t = h.does.turn in
@@ -91,7 +93,7 @@ rising_tick start most kept few old new node answered h g next ready =
       sent = said_since start old new (Call node note.Tick) [] answered h s (g.on.kept kept) still t.turn (tick_keeps h.before.node.mended) stays.sent;
     }
 
-rising_arrival : (start : WorldState) (most : ℕ) → IsKept start → ArrivalsGuarded start (ends_of start.air) (IsRisingNode start most) (IsFromMended start)
+pub rising_arrival : (start : WorldState) (most : ℕ) → IsKept start → ArrivalsGuarded start (ends_of start.air) (IsRisingNode start most) (IsFromMended start)
 rising_arrival start most kept old new a g next said = by (stop_of a.arrives.before.node a.bearer a.frame.frame) refl
   where
     still : IsStillWorld start old
@@ -139,6 +141,7 @@ tick_answered start most kept few old new node answered h g next ready r =
       still = λ b number apart. (g.nodes node h.before h.was b number apart).still;
       comes = heard;
       hears = λ b bearer k apart on_one there by. absurd (let wrong : note.Tick ≡ note.Arrive bearer by.number = by.arrives in cc);
+      mends = λ b bearer apart on_one by. absurd (let wrong : note.Tick ≡ note.Arrive bearer by.number = by.arrives in cc);
     }) r
 
 arrival_relates : (start : WorldState) (most : ℕ) → IsKept start → ArrivalsRelate start (ends_of start.air) (IsRisingNode start most) (IsFromMended start) (AreUpsAnswered start)
@@ -162,7 +165,62 @@ arrival_relates start most kept old new a g next said r =
           let shows = shows_present start kept old new a still under b by.es by.er by.packet by.from by.kind in
           subst (λ x. AnswersAt ((footing_at start a.node b).epoch x) (facing x (pair_with k.node a.node)).near) on
           (arrival_answered start old new a kept_old still r b k by.es by.er by.packet there apart by.from by.kind shows.epoch (by.ours ∙ ap (λ x. (footing_at start a.node b).epoch x) (sym on)) by.wakes));
+      mends = λ b bearer apart on_one by. (
+          let on : a.bearer ≡ bearer = (let arrives : note.Arrive a.bearer number_of ≡ note.Arrive bearer by.number = by.arrives in cc) in
+          let sender = sender_there old a.node a.bearer a.place a.frame b by.es by.er by.packet kept_old a.found by.from by.kind in
+          subst (λ x. is_mended_at start.members b x ≡ true) on (said b a.node sender.number (node_number old a.node h.before kept_old h.was) sender.apart sender.goes_here).mended);
     }) r
+
+-- ---- the first round
+
+-- no link of node n to another one is up
+abbrev pub IsDownNode : ℕ → MemberState → Type 0
+IsDownNode n m = (b bearer : ℕ) → IsNumber b → n ≢ b → bearer ≤ 1 → is_up_at (facing bearer (pair_with m.node b)).near ≡ false
+
+-- a link that isn't up isn't silent
+pub silent_down : (o : Option LinkEnd) → is_up_at o ≡ false → silence_in o ≡ 0
+silent_down None down = refl
+silent_down (Some e) down = down_silence e down
+
+-- where no link was up a tick takes none up, and so none is silent
+first_tick : (start : WorldState) → IsKept start → TicksGuarded start (ends_of start.air) (IsRisingNode start 0) IsDownNode (IsFromMended start)
+first_tick start kept old new node answered h g next ready =
+    let still = rising_is_still start 0 old g in
+    let t = h.does.turn in
+    let s = step_of (by_in old.members old.stamps (Call node note.Tick)) note.Tick t.inside (kept_answer answered) in
+    let kept_old = g.on.kept kept in
+    let n_is = node_number old node h.before kept_old h.was in
+    let none_silent : AreSilentFor 0 node h.before = λ b number apart bearer on_one. (let none = silent_down (facing bearer (pair_with h.before.node b)).near (ready b bearer number apart on_one) in omega (arith, none)) in
+    let heard = heard_all 0 node h.before (omega arith) (λ b. (kept_abreast h.before.node b t.told_before).first) none_silent in
+    let stays = tick_still start (ends_of start.air) kept old new node answered h still next heard in
+    record {
+      node = λ b number apart. record {
+        still = stays.node b number apart;
+        silent = λ bearer on_one. (let none = silent_down (facing bearer (pair_with h.after.node b)).near (down_on b bearer number apart on_one heard kept_old n_is (is_up_at (facing bearer (pair_with h.after.node b)).near) refl) in omega (arith, none));
+      };
+      sent = said_since start old new (Call node note.Tick) [] answered h s kept_old still t.turn (tick_keeps h.before.node.mended) stays.sent;
+    }
+  where
+    down_on : (b bearer : ℕ) → IsNumber b → node ≢ b → bearer ≤ 1 → HasHeardAll node h.before → IsKept old → IsNumber node → (up : Bool) → is_up_at (facing bearer (pair_with h.after.node b)).near ≡ up → is_up_at (facing bearer (pair_with h.after.node b)).near ≡ false
+    down_on b bearer number apart on_one heard kept_old n_is false is = is
+    down_on b bearer number apart on_one heard kept_old n_is true is =
+        let t = h.does.turn in
+        let s = step_of (by_in old.members old.stamps (Call node note.Tick)) note.Tick t.inside (kept_answer answered) in
+        absurd (elim (events_hear_ups (sight_at old.members old.air node b) (sight_at old.members old.air b node) (footing_at start node b) (footing_at start b node) h.before.node h.after.node [] s h.frames b bearer t.told_before t.turn
+        (kept_old.nodes.sound.pairs node b n_is number apart) (sight_is old node b h.before kept_old h.was) (heard b number apart) (g.nodes node h.before h.was b number apart).still on_one is) [
+          | inl was ↦ true≢false (sym was ∙ ready b bearer number apart on_one)
+          | inr by ↦ (let wrong : note.Tick ≡ note.Arrive bearer by.number = by.arrives in cc)
+        ])
+
+-- and each link that is up is answered
+first_answered : (start : WorldState) → IsKept start → TicksRelate start (ends_of start.air) (IsRisingNode start 0) IsDownNode (IsFromMended start) (AreUpsAnswered start)
+first_answered start kept old new node answered h g next ready =
+    let t = h.does.turn in
+    let none_silent : AreSilentFor 0 node h.before = λ b number apart bearer on_one. (let none = silent_down (facing bearer (pair_with h.before.node b)).near (ready b bearer number apart on_one) in omega (arith, none)) in
+    tick_answered start 0 kept (omega arith) old new node answered h (rising_more start old g) next none_silent
+  where
+    rising_more : (start w : WorldState) → IsRisingWorld start 0 w → IsRisingWorld start 1 w
+    rising_more start w g = rising_longer start 0 w g
 
 -- ---- a round
 
@@ -189,10 +247,6 @@ down_near w a b zero on_one down = down_end w a b 0 _ down refl
 down_near w a b (suc zero) on_one down = down_end w a b 1 _ down refl
 down_near w a b (suc (suc more)) on_one down = absurd (omega (arith, on_one))
 
-silent_down : (o : Option LinkEnd) → is_up_at o ≡ false → silence_in o ≡ 0
-silent_down None down = refl
-silent_down (Some e) down = down_silence e down
-
 pub rising_begins : (start : WorldState) → IsKept start → IsDownWorld start → start.lost ≡ false → IsRisingWorld start 0 start
 rising_begins start kept down clear = record {
   on = settles_same start clear;
@@ -210,5 +264,19 @@ pub ups_begin_answered : (start : WorldState) → IsKept start → IsDownWorld s
 ups_begin_answered start kept down = record {
   ups = λ a b bearer m k one two apart on_one up. absurd (
       true≢false (sym up ∙ (ap (λ (x : PairEnds). is_up_at (facing bearer x).near) (sym (sight_is start a b m kept one)) ∙ down_near start a b bearer on_one down)));
+  mended = λ a b bearer m one number apart on_one up. absurd (
+      true≢false (sym up ∙ (ap (λ (x : PairEnds). is_up_at (facing bearer x).near) (sym (sight_is start a b m kept one)) ∙ down_near start a b bearer on_one down)));
   told = λ bearer place f s d k on_one behind there goes_to number apart is. none_behind (λ x q. ShowsAnswering (footing_at start d s) (pair_with k.node d) (left_as x q)) start bearer place f on_one behind there;
 }
+
+-- ---- the first round as a whole
+
+pub down_nodes : (start : WorldState) → IsKept start → IsDownWorld start → EachNode IsDownNode start
+down_nodes start kept down n m there b bearer number apart on_one = ap (λ (x : PairEnds). is_up_at (facing bearer x).near) (sym (sight_is start n b m kept there)) ∙ down_near start n b bearer on_one down
+
+-- In the first round of a call that begins in a world in which no link is up, no link is silent.
+pub first_round_rises : (start : WorldState) (places : Places) (ends : Places) (now : WorldState) → IsKept start → IsDownWorld start → AreBefore (ends_of start.air) places → (r : IsRound places start ends now) → now.lost ≡ false → start.lost ≡ false
+    → RoundRelates start (ends_of start.air) (IsRisingNode start 0) (IsFromMended start) (AreUpsAnswered start) r.ticked r.between now
+first_round_rises start places ends now kept down behind r whole clear =
+    round_related start (ends_of start.air) (IsRisingNode start 0) IsDownNode (IsFromMended start) (AreUpsAnswered start) places start ends now (first_tick start kept) (rising_arrival start 0 kept)
+    (first_answered start kept) (arrival_relates start 0 kept) behind r whole (record { guards = rising_begins start kept down clear; related = ups_begin_answered start kept down }) (down_nodes start kept down)

@@ -38,7 +38,7 @@ use Rattle.tipc_world.proofs.rounds.StillWorlds.{node_number, seen_end, sight_is
 -- ---- an end that is up
 
 -- the end of a pair is that of the neighbour
-near_is : (n : NodeState) (b bearer : ℕ) (o : Option Neighbour) → end_with bearer o ≡ (facing bearer (acquaintance n b o).pair).near
+pub near_is : (n : NodeState) (b bearer : ℕ) (o : Option Neighbour) → end_with bearer o ≡ (facing bearer (acquaintance n b o).pair).near
 near_is n b bearer None = sym (kept_near n b bearer None refl)
 near_is n b bearer (Some x) = refl
 

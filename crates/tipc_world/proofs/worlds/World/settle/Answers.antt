@@ -1,3 +1,4 @@
+use Rattle.tipc_world.proofs.rounds.Acknowledging.{settled_acknowledges, settled_grows_no_more}
 use Rattle.tipc_world.proofs.rounds.PoisedAgain.{settled_poised}
 use Rattle.tipc_world.proofs.worlds.World.settle.Goals as goal
 
@@ -5,3 +6,13 @@ pub returns-clause-poised : goal.returns-clause-poised
 returns-clause-poised g c =
     let settled = c.go_round-settled in
     settled_poised c.args.rounds c.args.self.now.state settled.result settled.new.self.state c.kept.ensures settled.ensures.comes
+
+pub returns-clause-under_way : goal.returns-clause-under_way
+returns-clause-under_way g c =
+    let settled = c.go_round-settled in
+    settled_grows_no_more c.args.rounds c.args.self.now.state settled.result settled.new.self.state c.kept.ensures settled.ensures.comes
+
+pub returns-clause-acknowledged : goal.returns-clause-acknowledged
+returns-clause-acknowledged g c =
+    let settled = c.go_round-settled in
+    settled_acknowledges c.args.rounds c.args.self.now.state settled.result settled.new.self.state c.kept.ensures settled.ensures.comes
