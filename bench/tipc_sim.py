@@ -5,7 +5,7 @@ beside one link; what a failover costs by the number of packets that it moves. W
 by port; what a publication costs that every peer is told of; what a contact costs that begins with publications, and what
 a change costs that subscribers are told of; and what a multicast costs, and how often it asks for memory.
 
-It runs the program that `rt ci` left in crates/tipc_sim/out, a failover and a multicast under valgrind, and is no part of the gate.
+It runs the program that `rt ci` left in crates/tipc_sim/out, and counts instructions and allocations by valgrind; it is no part of the gate.
 """
 
 import os
@@ -32,12 +32,30 @@ def run(script: str) -> tuple:
     return report, time.monotonic() - start, usage.ru_maxrss * 1024
 
 
-def measure(what: str, lines: str, messages: int, body: int) -> None:
+def measure(what: str, script: str, messages: int, body: int) -> None:
     """Prints what the messages of a script took, each of which is one packet."""
-    report, seconds, held = run(NODES + lines + "air 0\n")
+    report, seconds, held = run(script + "air 0\n")
     frames = int(report.split()[-1])
     air = messages * (ENVELOPE + MESSAGE_HEADER + body) + (frames - messages) * STATE_FRAME
     print(f"{what}: {seconds:.3f} s, {messages / seconds:,.0f} messages a second, {frames} frames of {air:,} bytes, {held:,} bytes held")
+
+
+def burst(messages: int) -> str:
+    """Messages of one byte, each sent, pumped and received before the next."""
+    return NODES + f"burst 1 1 2 1 {messages} =x\n"
+
+
+def fifties(messages: int) -> str:
+    """Messages of 1,000 bytes, pumped in fifties."""
+    return NODES + "repeat 50 send 1 1 port 2 1 low *1000\npump 0\ndrain 2 1\n" * (messages // 50)
+
+
+def measure_each(what: str, script, first: int, last: int) -> None:
+    """Prints what each message of a script takes, from one number of messages to another."""
+    many = last - first
+    steps = (instructions(script(last)) - instructions(script(first))) / many
+    asked = (allocations(script(last)) - allocations(script(first))) / many
+    print(f"{what}, from message {first} to {last}: {steps:,.0f} instructions and {asked:.1f} allocations a message")
 
 
 def seconds_of(script: str) -> float:
@@ -59,14 +77,23 @@ def instructions(script: str) -> int:
     return int(told.split(b"Collected : ")[1].split()[0])
 
 
+def allocations(script: str) -> int:
+    """How many times a script asks for memory, as valgrind counts them: the same in each run."""
+    words = ["valgrind", "--leak-check=no", PROGRAM, "run"]
+    told = subprocess.run(words, input=script.encode(), capture_output=True, check=True).stderr
+    return int(told.split(b"total heap usage: ")[1].split()[0].replace(b",", b""))
+
+
 def measure_failover(messages: int) -> None:
     """Prints what a failover costs, from the cut to the last arrival, beside the same packets where no link is cut: 50 are
     unacknowledged, and those of so many messages wait, which have 47 packets each. A link lets at most five wait."""
     load = NODES + "link 1 2 1\n" + "repeat 50 send 1 1 port 2 1 low *1400\n" + "send 1 1 port 2 1 critical *66000\n" * messages
+    failed, whole = load + "cut 1 0\npump 1\npump 0\n", load + "pump 0\n"
     cut = instructions(load + "cut 1 0\n") - instructions(load)
-    more = instructions(load + "cut 1 0\npump 1\npump 0\n") - instructions(load + "pump 0\n")
+    more, asked = instructions(failed) - instructions(whole), allocations(failed) - allocations(whole)
     packets = 50 + 47 * messages
-    print(f"a failover of 50 unacknowledged packets and {packets - 50} that wait: {cut:,} instructions for the cut, {more:,} more in all, {more / packets:,.0f} a packet")
+    print(f"a failover of 50 unacknowledged packets and {packets - 50} that wait: {cut:,} instructions for the cut, {more:,} more in all, "
+          f"{more / packets:,.0f} and {asked / packets:.1f} allocations a packet")
 
 
 def measure_names(messages: int) -> None:
@@ -82,8 +109,11 @@ def measure_publications(peers: int, publications: int) -> None:
     nodes = "".join(f"node {number}\n" for number in range(1, peers + 2))
     nodes += "".join(f"link 1 {number} 0\n" for number in range(2, peers + 2)) + "mark\nsocket 1\n"
     lines = "".join(f"publish 1 1 100 {key} {key} cluster {key}\n" + ("pump 0\n" if key % 50 == 0 else "") for key in range(publications))
-    took = seconds_of(nodes + lines + "pump 0\n") - seconds_of(nodes)
-    print(f"{publications} publications, {peers} peers told: {took:.3f} s, {took / publications / peers * 1e6:.1f} microseconds an item")
+    told, items = nodes + lines + "pump 0\n", publications * peers
+    took = seconds_of(told) - seconds_of(nodes)
+    steps, asked = instructions(told) - instructions(nodes), allocations(told) - allocations(nodes)
+    print(f"{publications} publications, {peers} peers told: {took:.3f} s; an item takes {took / items * 1e6:.1f} microseconds, "
+          f"{steps / items:,.0f} instructions and {asked / items:.1f} allocations")
 
 
 def measure_greeting(publications: int) -> None:
@@ -91,10 +121,14 @@ def measure_greeting(publications: int) -> None:
     contacts = 100
     lines = "".join(f"publish 1 1 100 {key} {key} cluster {key}\n" for key in range(publications))
     nodes = "node 1\nnode 2\nsocket 1\n"
-    took = seconds_of(nodes + lines + "link 1 2 0\npump 0\ncut 1 0\n" * contacts) - seconds_of(nodes + lines)
-    bare = seconds_of(nodes + "link 1 2 0\npump 0\ncut 1 0\n" * contacts) - seconds_of(nodes)
+    contact = "link 1 2 0\npump 0\ncut 1 0\n"
+    took = seconds_of(nodes + lines + contact * contacts) - seconds_of(nodes + lines)
+    bare = seconds_of(nodes + contact * contacts) - seconds_of(nodes)
     each = (took - bare) / contacts / publications * 1e6
-    print(f"a contact that begins with {publications} publications: {took / contacts * 1e3:.2f} ms, {each:.2f} microseconds a publication")
+    one, two = nodes + lines + contact, nodes + lines + contact * 2
+    steps, asked = instructions(two) - instructions(one), allocations(two) - allocations(one)
+    print(f"a contact that begins with {publications} publications: {took / contacts * 1e3:.2f} ms, {each:.2f} microseconds a publication; "
+          f"{steps:,} instructions and {asked} allocations")
 
 
 def measure_subscribers(subscribers: int, publications: int) -> None:
@@ -106,13 +140,6 @@ def measure_subscribers(subscribers: int, publications: int) -> None:
         watching = nodes + f"subscribe 1 {kind} 0 4294967295 4294967295 ports\n" * subscribers
         took = (seconds_of(watching + lines) - seconds_of(watching) - bare) / (2 * publications)
         print(f"{subscribers} subscribers, a change that is {what}: {took * 1e6:.1f} microseconds more, {took / subscribers * 1e9:.0f} nanoseconds a subscriber")
-
-
-def allocations(script: str) -> int:
-    """How many times a script asks for memory, as valgrind counts them: the same in each run."""
-    words = ["valgrind", "--leak-check=no", PROGRAM, "run"]
-    told = subprocess.run(words, input=script.encode(), capture_output=True, check=True).stderr
-    return int(told.split(b"total heap usage: ")[1].split()[0].replace(b",", b""))
 
 
 def measure_multicasts(sockets: int) -> None:
@@ -146,10 +173,13 @@ def measure_members(members: int) -> None:
 
 def main() -> None:
     for count in (1_000, 10_000, 30_000, 65_540):
-        measure(f"burst of {count} messages of 1 byte", f"burst 1 1 2 1 {count} =x\n", count, 1)
-    pumped = "repeat 50 send 1 1 port 2 1 low *1000\npump 0\ndrain 2 1\n"
-    for turns in (100, 400, 1_200):
-        measure(f"{50 * turns} messages of 1,000 bytes, pumped in fifties", pumped * turns, 50 * turns, 1_000)
+        measure(f"burst of {count} messages of 1 byte", burst(count), count, 1)
+    for count in (5_000, 20_000, 60_000):
+        measure(f"{count} messages of 1,000 bytes, pumped in fifties", fifties(count), count, 1_000)
+    for first, last in ((1_000, 2_000), (10_000, 11_000), (64_000, 65_000)):
+        measure_each("a burst of messages of 1 byte", burst, first, last)
+    for first, last in ((1_000, 2_000), (10_000, 11_000), (59_000, 60_000)):
+        measure_each("messages of 1,000 bytes, pumped in fifties", fifties, first, last)
     measure_two_links(30_000)
     for messages in range(6):
         measure_failover(messages)

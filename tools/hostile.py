@@ -9,12 +9,13 @@ hostile.py print KIND SEED LINES
             and past boots too, while nodes restart, bearers are cut and messages are sent
     busy    eight nodes that publish, withdraw, send by name and by port and multicast, while frames are lost and repeated,
             bearers cut and nodes restarted
-    many    32 nodes likewise
+    many    32 nodes likewise; at the end they send nothing, since the rounds for that are more frames than a script may have
 
 hostile.py try PROGRAM KIND FIRST LAST LINES
     Runs PROGRAM (a built tipc_sim) on the script of each seed from FIRST to LAST and looks at its report: the program ends with
     status 0 and answers each line; at the end the nodes are quiet, what they send each other comes, all of it, their tables are the
-    same, and on each way all that was accepted in the present contact was delivered.
+    same, and on each way all that was accepted in the present contact was delivered. A script that has more events or frames than may
+    be is no fault, but counted by itself.
 
 hostile.py bytes NODES FRAMES
     A script can't change the bytes of a frame, so this needs no program: it runs the tests of tipc_node_tests by `rt try`, which
@@ -37,24 +38,31 @@ MOST_SECONDS = "3600"
 BOOTS_BASE = 1_048_576
 SERVICE = 300
 SENT_AT_END = 3
+LIMIT_REACHED = 6
 
 # What a kind of script is: from and to how many nodes; rounds at the begin; rounds at the end, after which what is on its way behind so
-# many lines has come, and then what each node sent each other one; how far back a frame may be that arrives; how often each line is drawn.
+# many lines has come, and then what each node sent each other one (where they are 0, it sends nothing); how far back a frame may be that
+# arrives; what share of the messages goes to all (a small one among 32 nodes: each that lacks a packet asks for it, and it comes to all
+# of them again); how often each line is drawn.
 KINDS = {
-    "old": ((2, 4), (12, 800, 400), (8, 60, 200, 1_000),
+    "old": ((2, 4), (12, 800, 400), (8, 60, 200, 1_000), 1 / 3,
             {"arrive": 120, "send": 30, "tick": 14, "pump": 6, "settle": 3, "cut": 3, "mend": 6, "restart": 1, "drain": 6}),
-    "busy": ((8, 8), (12, 100, 100), (8, 60, 400),
+    "busy": ((8, 8), (12, 100, 100), (8, 60, 400), 1 / 3,
              {"arrive": 160, "send": 40, "tick": 6, "pump": 4, "cut": 2, "mend": 6, "restart": 0.3, "drain": 20, "name": 6}),
-    "many": ((32, 32), (3, 12, 6), (8, 60, 400),
-             {"arrive": 300, "send": 30, "tick": 0.5, "cut": 0.5, "mend": 1, "restart": 0.05, "drain": 10, "name": 0.5}),
+    "many": ((32, 32), (3, 16, 0), (8, 60, 400), 1 / 100,
+             {"arrive": 300, "send": 30, "tick": 0.5, "cut": 0.3, "mend": 0.6, "restart": 0.03, "drain": 10, "name": 0.3}),
 }
+
+
+class TooLong(Exception):
+    """A script has more events or frames than may be."""
 
 
 class Storm:
     """A cluster, and what its lines say."""
 
     def __init__(self, kind: str, seed: int):
-        (least, most), self.rounds, self.back, self.kinds = KINDS[kind]
+        (least, most), self.rounds, self.back, self.casts, self.kinds = KINDS[kind]
         self.draw = random.Random(seed)
         self.nodes = list(range(1, self.draw.randint(least, most) + 1))
         self.boots = {n: 1 for n in self.nodes}
@@ -97,7 +105,9 @@ class Storm:
     def send(self) -> str:
         a, b = self.draw.sample(self.nodes, 2)
         body = self.draw.choice(("=x", "*100", "*1452", "*1500", "*9000"))
-        to = self.draw.choice((f"port {b} {self.port(b)}", f"name {SERVICE} {self.draw.randint(0, 18)}", f"cast {SERVICE} 0 9"))
+        to = self.draw.choice((f"port {b} {self.port(b)}", f"name {SERVICE} {self.draw.randint(0, 18)}"))
+        if self.draw.random() < self.casts:
+            to = f"cast {SERVICE} 0 9"
         return f"send {a} {self.port(a)} {to} low {body}"
 
     def restart(self, n: int) -> list:
@@ -120,13 +130,19 @@ class Storm:
         some = {"arrive": lambda: self.arrive(n, x), "restart": lambda: self.restart(n), "name": lambda: self.name(n)}
         return some[kind]() if kind in some else [one[kind]()]
 
-    def last_lines(self) -> list:
-        """All is mended; each node makes a socket, and sends a few messages to that of each other one. What is looked at then."""
-        lines = self.mended() + [f"settle {self.rounds[1]}"] + [self.socket(n) for n in self.nodes]
-        ways = [(a, b) for a in self.nodes for b in self.nodes if a != b]
+    def last_messages(self, ways: list) -> list:
+        """Each node makes a socket, and sends a few messages to that of each other one."""
+        lines = [self.socket(n) for n in self.nodes]
         for a, b in ways:
             lines += [f"send {a} {self.port(a)} port {b} {self.port(b)} low =m"] * SENT_AT_END
-        lines += [f"settle {self.rounds[2]}"] + [f"drain {n} {self.port(n)}" for n in self.nodes]
+        return lines + [f"settle {self.rounds[2]}"] + [f"drain {n} {self.port(n)}" for n in self.nodes]
+
+    def last_lines(self) -> list:
+        """All is mended and settles; each node sends a few messages to each other one. What is looked at then."""
+        ways = [(a, b) for a in self.nodes for b in self.nodes if a != b]
+        lines = self.mended() + [f"settle {self.rounds[1]}"]
+        if self.rounds[2]:
+            lines += self.last_messages(ways)
         return lines + [f"table {n}" for n in self.nodes] + [f"flow {a} {b}" for a, b in ways]
 
 
@@ -134,7 +150,8 @@ def script_of(kind: str, seed: int, lines: int) -> tuple:
     """The script of a seed, and how many lines its end has."""
     cluster = Storm(kind, seed)
     script = cluster.first_lines()
-    for _ in range(lines):
+    behind = len(script) + lines
+    while len(script) < behind:
         script += cluster.line()
     last = cluster.last_lines()
     return script + last, len(last), len(cluster.nodes)
@@ -159,6 +176,8 @@ def fault(program: str, kind: str, seed: int, lines: int) -> str:
     script, last, nodes = script_of(kind, seed, lines)
     ran = subprocess.run([program, "run"], input="\n".join(script) + "\n", capture_output=True, text=True, check=False)
     report = ran.stdout.splitlines()
+    if ran.returncode == LIMIT_REACHED:
+        raise TooLong
     if ran.returncode != 0 or len(report) != len(script):
         return f"status {ran.returncode}, {len(report)} answers to {len(script)} lines, the last: {report[-1] if report else ''}"
     tables: set = set()
@@ -171,14 +190,19 @@ def fault(program: str, kind: str, seed: int, lines: int) -> str:
 
 def try_all(program: str, kind: str, first: int, last: int, lines: int) -> int:
     """Tries all seeds, and tells what is wrong."""
-    begin, faults = time.monotonic(), 0
+    begin, faults, too_long = time.monotonic(), 0, 0
     for seed in range(first, last + 1):
-        what = fault(program, kind, seed, lines)
+        try:
+            what = fault(program, kind, seed, lines)
+        except TooLong:
+            too_long += 1
+            continue
         if what:
             faults += 1
             print(f"seed {seed}: {what}", flush=True)
-    print(f"{last - first + 1} scripts of {kind}, {lines} lines each, {faults} with a fault, {time.monotonic() - begin:.0f} s")
-    return 1 if faults else 0
+    tried = last - first + 1 - too_long
+    print(f"{tried} scripts of {kind}, {lines} lines each, {faults} with a fault, {time.monotonic() - begin:.0f} s; {too_long} too long to be run")
+    return 1 if faults or not tried else 0
 
 
 def with_counts(text: str, nodes: int, frames: int) -> str:

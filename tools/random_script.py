@@ -8,6 +8,10 @@ many at a time, and frames arrive late, again and in any order.
 
 random_script.py SEED LINES casts: a broadcast link that runs long. Node 1 multicasts to four members; frames are lost and arrive out of
 order, members are cut and come back, and the numbers go around 65,536.
+
+random_script.py SEED LINES poised: a world that is poised and has work left. Nodes find each other, some bearers stay cut, nodes are
+restarted, and all settles; the lines behind that send and publish, lose frames and bring them out of order, but no node ticks so
+often that a link falls silent. tools/settling.py lets such worlds settle.
 """
 
 import random
@@ -177,10 +181,85 @@ class Casting:
         return f"{kind} {n}"
 
 
+class Poised(Cluster):
+    """A cluster whose links have settled, and lines that take none of them down."""
+
+    SERVICE = 200
+    MOST_TICKS = 3
+    KINDS = {"send": 20, "repeat": 6, "name": 5, "arrive": 30, "pump": 3, "tick": 4, "drain": 4}
+
+    def __init__(self, draw: random.Random):
+        super().__init__(draw)
+        self.nodes = list(range(1, draw.choice((2, 2, 3, 3, 4, 5)) + 1))
+        self.boots = {n: 1 for n in self.nodes}
+        self.sockets = {n: 0 for n in self.nodes}
+        self.ticks = {n: 0 for n in self.nodes}
+        self.keys = {n: [] for n in self.nodes}
+        self.key = 0
+
+    def first_lines(self) -> list:
+        """Most bearers are mended; then up to three nodes are restarted, or a bearer is cut or mended; then all settles."""
+        lines = [f"node {n}" for n in self.nodes] + [f"mend {n} {x}" for n in self.nodes for x in (0, 1) if self.draw.random() < 0.9]
+        lines += ["settle 12"]
+        for _ in range(self.draw.randint(0, 3)):
+            n = self.node()
+            kind = self.draw.choice(("cut", "mend", "restart"))
+            lines.append(self.restart(n) if kind == "restart" else f"{kind} {n} {self.bearer()}")
+            lines += [f"mend {n} 0", f"mend {n} 1"] if kind == "restart" else []
+            lines += [f"settle {self.draw.randint(0, 4)}"]
+        lines += ["settle 12"] + [self.socket(n) for n in self.nodes] + [self.publish(n) for n in self.nodes]
+        return lines + ["settle 12", "mark"]
+
+    def port(self, n: int) -> int:
+        """A port of the present boot."""
+        return (self.boots[n] - 1) * BOOTS_BASE + self.sockets[n]
+
+    def publish(self, n: int) -> str:
+        self.key += 1
+        self.keys[n].append(self.key)
+        lower = self.draw.randint(0, 9)
+        return f"publish {n} {self.port(n)} {self.SERVICE} {lower} {lower + self.draw.randint(0, 9)} cluster {self.key}"
+
+    def name(self, n: int) -> str:
+        """A publication more, or one less."""
+        if self.keys[n] and self.draw.random() < 0.4:
+            return f"withdraw {n} {self.port(n)} {self.keys[n].pop()}"
+        return self.publish(n)
+
+    def send(self) -> str:
+        a, b = self.two_nodes()
+        to = self.draw.choice((f"port {b} {self.port(b)}", f"name {self.SERVICE} {self.draw.randint(0, 18)}", f"cast {self.SERVICE} 0 9"))
+        return f"send {a} {self.port(a)} {to} {self.draw.choice(IMPORTANCES)} {self.body()}"
+
+    def line(self) -> str:
+        """One more line."""
+        kind = self.draw.choices(list(self.KINDS), list(self.KINDS.values()))[0]
+        n = self.node()
+        if kind == "tick" and self.ticks[n] == self.MOST_TICKS:
+            kind = "send"
+        if kind == "tick":
+            self.ticks[n] += 1
+            return f"tick {n}"
+        if kind == "send":
+            return self.send()
+        if kind == "repeat":
+            return f"repeat {self.draw.randint(1, 20)} {self.send()}"
+        if kind == "name":
+            return self.name(n)
+        if kind == "arrive":
+            return f"arrive {n} {self.bearer()} {self.draw.randint(0, self.draw.choice((3, 10, 30)))}"
+        if kind == "pump":
+            return f"pump {self.bearer()}"
+        return f"drain {n} {self.port(n)}"
+
+
+KINDS = {"casts": Casting, "poised": Poised}
+
+
 def main() -> None:
     seed, lines = int(sys.argv[1]), int(sys.argv[2])
     draw = random.Random(seed)
-    cluster = Casting(draw) if sys.argv[3:] == ["casts"] else Cluster(draw)
+    cluster = KINDS[sys.argv[3]](draw) if sys.argv[3:] else Cluster(draw)
     script = cluster.first_lines()
     script += [cluster.line() for _ in range(lines)]
     print("\n".join(script))

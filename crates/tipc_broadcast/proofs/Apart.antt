@@ -9,7 +9,7 @@ use Rattle.tipc_types.specs.Position.{number_of}
 use Rattle.tipc_types.specs.declared.link_words.BroadcastState.{BroadcastState}
 use Rattle.tipc_recv_window.specs.Receiving.{Receiving}
 use Rattle.tipc_broadcast.specs.declared.contacts.Contact.{Contact}
-use Rattle.tipc_broadcast.specs.Casting.{Casting, accepted, accepting, answered, credited, flushed, informed, leaving, left_with, moved_up, next_start, room, rounds_of_departure, settled, shown, with_contacts}
+use Rattle.tipc_broadcast.specs.Casting.{Casting, accepted, accepting, answered, credited, flushed, informed, kept_for, leaving, left_with, moved_up, next_start, room, rounds_of_departure, settled, shown, with_contacts, with_message}
 use Rattle.tipc_broadcast.specs.Contacts.{acknowledging, carried, contact_with, is_with, joined, shown_in, shown_to, told, with_changed, without}
 use Rattle.tipc_broadcast.specs.Deeds.{CastDeed, after_deed, after_deeds, is_deed_with, is_hearing_of, sends_nothing}
 use Rattle.tipc_broadcast.proofs.Deeds.{LeavesBoot, accepting_alike, answered_alike, heard_keeps, left_alike, told_keeps}
@@ -116,6 +116,65 @@ deed_accepted (CastDeed.states peer seen) v quiet = accepted_stated v peer seen 
 deed_accepted (CastDeed.bears bearer is_mended) v quiet = refl
 deed_accepted (CastDeed.hears boot members by packet) v quiet = refl
 deed_accepted (CastDeed.sends pieces) v quiet = absurd (let wrong : false ≡ true = quiet in cc)
+
+pub deeds_accepted : (ds : List CastDeed) (v : Casting) → list_all sends_nothing ds ≡ true → accepted (after_deeds ds v).sending ≡ accepted v.sending
+deeds_accepted [] v quiet = refl
+deeds_accepted (d ∷ ds) v quiet =
+    let parts = and_parts (sends_nothing d) (list_all sends_nothing ds) quiet in
+    deeds_accepted ds (after_deed d v) parts.1 ∙ deed_accepted d v parts.0
+
+-- ---- a number is never taken back
+
+flushed_rises : (v : Casting) → v.sending.numbered ≤ (flushed v).sending.numbered
+unfolding flushed
+flushed_rises v = omega arith
+
+settled_same : (v : Casting) → (settled v).sending.numbered ≡ v.sending.numbered
+unfolding settled
+settled_same v = refl
+
+moved_up_rises : (n : ℕ) (v : Casting) → v.sending.numbered ≤ (moved_up n v).sending.numbered
+unfolding moved_up
+moved_up_rises zero v = omega arith
+moved_up_rises (suc n) v =
+    let before = moved_up_rises n v in
+    let same = settled_same (moved_up n v) in
+    let more = flushed_rises (settled (moved_up n v)) in
+    omega (arith, before, same, more)
+
+left_rises : (cs : List Contact) (v : Casting) → v.sending.numbered ≤ (left_with cs v).sending.numbered
+left_rises [] v = omega arith
+left_rises (c ∷ cs) v = moved_up_rises 6 v
+
+kept_rises : (cs : List Contact) (v : Casting) → v.sending.numbered ≤ (kept_for cs v).sending.numbered
+kept_rises [] v = omega arith
+kept_rises (c ∷ cs) v = omega arith
+
+stated_rises : (v : Casting) (peer : ℕ) (seen : BroadcastState) (b : Bool) → v.sending.numbered ≤ (if b then answered (informed v peer seen.start seen.next) peer seen.acknowledged else informed v peer seen.start seen.next).sending.numbered
+stated_rises v peer seen true =
+    let credit = credited (informed v peer seen.start seen.next) peer seen.acknowledged in
+    let same = settled_same credit in
+    let more = flushed_rises (settled credit) in
+    omega (arith, same, more)
+stated_rises v peer seen false = omega arith
+
+deed_rises : (d : CastDeed) (v : Casting) → v.sending.numbered ≤ (after_deed d v).sending.numbered
+deed_rises (CastDeed.joins peer boot) v = omega arith
+deed_rises (CastDeed.leaves peer) v = left_rises (without peer v.contacts) (with_contacts v (without peer v.contacts))
+deed_rises (CastDeed.states peer seen) v = stated_rises v peer seen seen.in_step
+deed_rises (CastDeed.bears bearer is_mended) v = omega arith
+deed_rises (CastDeed.hears boot members by packet) v = omega arith
+deed_rises (CastDeed.sends pieces) v =
+    let kept = kept_rises v.contacts (flushed (with_message v pieces)) in
+    let more = flushed_rises (with_message v pieces) in
+    omega (arith, kept, more)
+
+pub deeds_rise : (ds : List CastDeed) (v : Casting) → v.sending.numbered ≤ (after_deeds ds v).sending.numbered
+deeds_rise [] v = omega arith
+deeds_rise (d ∷ ds) v =
+    let one = deed_rises d v in
+    let more = deeds_rise ds (after_deed d v) in
+    omega (arith, one, more)
 
 -- ---- what a STATE shows
 

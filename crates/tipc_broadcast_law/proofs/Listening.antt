@@ -1,17 +1,19 @@
 -- The member's calls are runs of the law.
 use Rattle.std.proofs.Common.{◌≡◌, ℕ, ◌+◌, ◌-◌, ◌<◌, ◌≤◌, ◌==◌, true, false, not, if◌then◌else◌, List, [], ◌∷◌, ◌++◌, length, take, drop, map, Option, Some, None, is_some, refl, sym, ap, ◌∙◌, subst, append_assoc, append-nil, inl, inr, eqb-true, arith}
-use Rattle.std.specs.Prelude.{slice_get, slice_index_or}
+use Rattle.std.specs.Prelude.{max, nat_le, slice_get, slice_index_or}
 use Rattle.std.proofs.lemmas.Bool.{cases_lt}
+use Rattle.std.proofs.lemmas.Bool.Decides.{nat_tests}
 use Rattle.std.proofs.lemmas.List.{get_or-drop, take_more, length-drop}
 use Rattle.std.proofs.lemmas.Option.{get_or_from_slice_get, same_Some, slice_get_within}
 use Rattle.tipc_types.specs.Address.{IsNodeWord}
-use Rattle.tipc_types.specs.Position.{number_of}
+use Rattle.tipc_types.specs.Position.{distance_of, number_of}
+use Rattle.tipc_types.proofs.PositionLaws.{distance_of-ahead, distance_of-behind}
 use Rattle.tipc_types.specs.declared.link_words.Why.{Why}
 use Rattle.tipc_types.specs.declared.link_words.Why.TheVariants as why
 use Rattle.tipc_types.specs.declared.packet_lists.Taken.{Taken}
 use Rattle.tipc_recv_window.specs.declared.outcomes.Place.{Place}
 use Rattle.tipc_recv_window.specs.declared.outcomes.Place.TheVariants.{InOrder, Deferred, Old}
-use Rattle.tipc_recv_window.specs.Receiving.{Receiving, arrived_at, drained, filled, fresh, is_new, next_of, outcome_at, past_wanted, place_at, run_of, with_packet}
+use Rattle.tipc_recv_window.specs.Receiving.{Receiving, ahead, arrived_at, drained, filled, fresh, is_new, next_of, outcome_at, past_wanted, place_at, run_of, with_packet}
 use Rattle.tipc_recv_window.specs.Laws.{ArrivesByPosition}
 use Rattle.tipc_recv_window.proofs.ArrivalLaws.{arrives}
 use Rattle.tipc_recv_window.proofs.Comings.{due_none}
@@ -21,10 +23,10 @@ use Rattle.tipc_broadcast.specs.Contacts.{heard, heard_outcome, is_in_step, is_m
 use Rattle.tipc_broadcast_law.specs.Groups.{Accepted, Caster, Group, mark, mark_in, Member, packets, place, put, queue, window}
 use Rattle.tipc_broadcast_law.specs.Events.{changes, entered, go_on, in_step_from, left, member_begins, member_ends, none, Runs, steps_in, takes, taking}
 use Rattle.tipc_broadcast_law.specs.Law.{IsGroup}
-use Rattle.tipc_broadcast_law.specs.Listening.{given, HoldsAt, IsAt, IsCastAt, IsListening, IsWindow, stepped_member, TookIn, MemberTurns}
+use Rattle.tipc_broadcast_law.specs.Listening.{given, HadCome, HoldsAt, IsAt, IsCastAt, IsListening, WasShownIn, IsWindow, stepped_member, ToldNext, TookIn, MemberTurns}
 use Rattle.tipc_broadcast_law.specs.Promises.{IsNear}
 use Rattle.tipc_broadcast_law.proofs.Consequences.{all_are_near}
-use Rattle.tipc_broadcast_law.proofs.MemberEvents.{place-want}
+use Rattle.tipc_broadcast_law.proofs.MemberEvents.{place-begun, place-want}
 use Rattle.tipc_broadcast_law.proofs.Places.{put_other, put_same, same_or_not}
 
 -- ---- contacts begin and end
@@ -49,7 +51,7 @@ enter_runs g m c peer start h away above era newest =
       caster = refl;
       others = λ i never. put_other m l g.members i never;
       one = here;
-      listens = subst (λ (n : Member). (d : ℕ) × (n.at ≡ Some d) × (k.boots c ≡ n.boots d) × (n.want d ≡ None)) (sym here) (c, refl, refl, never_wanted k c (λ w e. (h.each m).want_last c w e) above);
+      listens = subst (λ (n : Member). (d : ℕ) × (n.at ≡ Some d) × (k.boots c ≡ n.boots d) × (n.want d ≡ None) × Unit {0}) (sym here) (c, refl, refl, never_wanted k c (λ w e. (h.each m).want_last c w e) above, tt);
     }
 
 pub quit_runs : (g : Group) (m : ℕ) → MemberTurns g m (λ l. l ≡ left (g.members m)) None
@@ -82,13 +84,84 @@ stepped_none start k is = ap (λ o. if is_some o then k else record k { window =
 stepped_some : (start : ℕ) (k : Contact) (r : Receiving) → k.window ≡ Some r → stepped start k ≡ k
 stepped_some start k r is = ap (λ o. if is_some o then k else record k { window = Some (fresh start); shown = start }) is
 
--- listening is told by boot and window
-listens_as : (g : Group) (m c : ℕ) (k : Contact) (boot : ℕ) (o : Option Receiving) → k.boot ≡ boot → k.window ≡ o → (g.members m).at ≡ Some c → boot ≡ (g.members m).boots c → IsWindow g m c o → IsListening g m (Some k)
-listens_as g m c k boot o boots windows at same is = (c, at, boots ∙ same, subst (IsWindow g m c) (sym windows) is)
+-- listening is told by boot, window and what was shown
+listens_as : (g : Group) (m c shown : ℕ) (k : Contact) (boot : ℕ) (o : Option Receiving) → k.boot ≡ boot → k.window ≡ o → k.shown ≡ shown → (g.members m).at ≡ Some c → boot ≡ (g.members m).boots c → IsWindow g m c o → WasShownIn g m c shown o
+    → IsListening g m (Some k)
+listens_as g m c shown k boot o boots windows shows at same is within =
+    (c, at, boots ∙ same, subst (IsWindow g m c) (sym windows) is, subst (λ n. WasShownIn g m c n k.window) (sym shows) (subst (WasShownIn g m c shown) (sym windows) within))
 
-tell_in : (g : Group) (m c s next : ℕ) (k : Contact) (o : Option Receiving) → k.window ≡ o → (g.members m).at ≡ Some c → k.boot ≡ (g.members m).boots c → IsWindow g m c o → (g.members m).begun c ≡ Some s
+-- ---- the next number
+
+-- the member had come no further than to the place that it wants, or its start
+pub had_come-place : (g : Group) (m c s p : ℕ) → IsGroup g → (g.members m).begun c ≡ Some s → HadCome (g.members m) c p → (w : ℕ) → (g.members m).want c ≡ Some w → p ≤ w
+had_come-place g m c s p h begun (inl start) w want =
+    let same : p ≡ s = same_Some p s (sym start ∙ begun) in
+    let from = (h.each m).want_from c w s want begun in
+    omega (arith, same, from)
+had_come-place g m c s p h begun (inr come) w want =
+    let same : come.0 ≡ w = same_Some come.0 w (sym come.1 ∙ want) in
+    let had = come.2 in
+    omega (arith, same, had)
+
+pub had_come-start : (g : Group) (m c s p : ℕ) → (g.members m).begun c ≡ Some s → HadCome (g.members m) c p → (g.members m).want c ≡ None → p ≡ s
+had_come-start g m c s p begun (inl start) out = same_Some p s (sym start ∙ begun)
+had_come-start g m c s p begun (inr come) out = absurd (let wrong : None ≡ Some come.0 = sym out ∙ come.1 in let no : ⊥ = cc in no)
+
+-- A next number leads at most so far past the wanted place as packets are numbered: where it lies before that place, it tells nothing.
+ahead_within : (r : Receiving) (w n numbered : ℕ) → number_of (w + 1) ≡ number_of r.wanted → n ≤ w + 296 → w ≤ n + 30542 → n ≤ numbered → ahead r (number_of (n + 1)) ≤ numbered - w
+unfolding ahead
+ahead_within r w n numbered wanted near recent by_now = elim (cases_lt n w) [
+  | inl before ↦
+      let far : distance_of (number_of (w + 1)) (number_of (n + 1)) ≡ 65536 - (w - n) = (let sum = distance_of-behind (w + 1) (n + 1) (omega arith) (omega arith) in omega (arith, sum)) in
+      let past : past_wanted r (number_of (n + 1)) ≡ 65536 - (w - n) = ap (λ x. distance_of x (number_of (n + 1))) (sym wanted) ∙ far in
+      let test : nat_le (65536 - (w - n)) 32767 ≡ false = grind (arith, nat_tests) in
+      rw past (rw test (omega arith))
+  | inr from ↦
+      let far : distance_of (number_of (w + 1)) (number_of (n + 1)) ≡ n + 1 - (w + 1) = distance_of-ahead (w + 1) (n + 1) (omega arith) (omega arith) in
+      let past : past_wanted r (number_of (n + 1)) ≡ n - w = ap (λ x. distance_of x (number_of (n + 1))) (sym wanted) ∙ far ∙ omega arith in
+      let test : nat_le (n - w) 32767 ≡ true = grind (arith, nat_tests) in
+      rw past (rw test (omega arith))
+]
+
+-- where the member is in step first by this STATE
+shown_anew : (g : Group) (m c s next stamp : ℕ) → IsGroup g → (g.members m).begun c ≡ Some s → (g.members m).want c ≡ None → ToldNext (g.members m) c next stamp → stamp ≤ g.caster.numbered ((g.members m).boots c) → g.caster.numbered ((g.members m).boots c) ≤ stamp + 30000
+    → max (number_of (s + 1)) (number_of (s + 1) + ahead (fresh (number_of (s + 1))) next) ≤ number_of (s + 1) + (g.caster.numbered ((g.members m).boots c) - s)
+shown_anew g m c s next stamp h begun out t by_now recent =
+    let n = t.numbered in
+    let start = number_of (s + 1) in
+    let numbered = g.caster.numbered ((g.members m).boots c) in
+    let come = had_come-start g m c s t.place begun t.had_come out in
+    let near = t.near in
+    let by_then = t.by_then in
+    let stamped = t.stamped in
+    let place_is : place (g.members m) c ≡ s = place-begun (g.members m) c s out begun in
+    let leads = (h.each m).place_near c s begun in
+    let far : ahead (fresh start) (number_of (n + 1)) ≤ numbered - s = ahead_within (fresh start) s n numbered (number_again (s + 1)) (omega arith) (omega arith) (omega arith) in
+    subst (λ x. max start (start + ahead (fresh start) x) ≤ start + (numbered - s)) (sym t.next_is) (omega (arith, far))
+
+-- and where it was
+shown_more : (g : Group) (m c s next stamp w shown : ℕ) (r : Receiving) → IsGroup g → (g.members m).begun c ≡ Some s → (g.members m).want c ≡ Some w → number_of (w + 1) ≡ number_of r.wanted → ToldNext (g.members m) c next stamp → stamp ≤ g.caster.numbered ((g.members m).boots c)
+    → g.caster.numbered ((g.members m).boots c) ≤ stamp + 30000 → shown ≤ r.wanted + (g.caster.numbered ((g.members m).boots c) - w)
+    → max shown (r.wanted + ahead r next) ≤ r.wanted + (g.caster.numbered ((g.members m).boots c) - w)
+shown_more g m c s next stamp w shown r h begun want wanted t by_now recent before =
+    let n = t.numbered in
+    let numbered = g.caster.numbered ((g.members m).boots c) in
+    let come = had_come-place g m c s t.place h begun t.had_come w want in
+    let near = t.near in
+    let by_then = t.by_then in
+    let stamped = t.stamped in
+    let place_is : place (g.members m) c ≡ w = place-want (g.members m) c w want in
+    let leads = (h.each m).place_near c s begun in
+    let far : ahead r (number_of (n + 1)) ≤ numbered - w = ahead_within r w n numbered wanted (omega arith) (omega arith) (omega arith) in
+    subst (λ x. max shown (r.wanted + ahead r x) ≤ r.wanted + (numbered - w)) (sym t.next_is) (omega (arith, far, before))
+
+noted_shown : (next : ℕ) (c : Contact) (o : Option Receiving) (r : Receiving) → o ≡ Some r → (noted_in next c o).shown ≡ max c.shown (r.wanted + ahead r next)
+noted_shown next c o r is = ap (λ p. (noted_in next c p).shown) is
+
+tell_in : (g : Group) (m c s next stamp : ℕ) (k : Contact) (o : Option Receiving) → k.window ≡ o → IsGroup g → (g.members m).at ≡ Some c → k.boot ≡ (g.members m).boots c → IsWindow g m c o → WasShownIn g m c k.shown o → (g.members m).begun c ≡ Some s
+    → ToldNext (g.members m) c next stamp → stamp ≤ g.caster.numbered ((g.members m).boots c) → g.caster.numbered ((g.members m).boots c) ≤ stamp + 30000
     → MemberTurns g m (λ l. l ≡ stepped_member (g.members m) c s o) (Some (told (number_of (s + 1)) next k))
-tell_in g m c s next k None there at boots is begun =
+tell_in g m c s next stamp k None there h at boots is within begun t by_now recent =
     let n = g.members m in
     let l = in_step_from n c s in
     let after : Group = record { caster = g.caster; members = put m l g.members } in
@@ -97,37 +170,47 @@ tell_in g m c s next k None there at boots is begun =
     let stepping = stepped_none start k there in
     let kept = noted_window next (stepped start k) (stepped start k).window in
     let wants : (after.members m).want c ≡ Some s = ap (λ (i : Member). i.want c) here ∙ put_same c (Some s) n.want in
+    let shows : (told start next k).shown ≡ max start (start + ahead (fresh start) next) =
+    noted_shown next (stepped start k) (stepped start k).window (fresh start) (ap (λ (d : Contact). d.window) stepping) ∙ ap (λ (d : Contact). max d.shown (start + ahead (fresh start) next)) stepping in
+    let low = shown_anew g m c s next stamp h begun is t by_now recent in
+    let low_after : WasShownIn after m c (max start (start + ahead (fresh start) next)) (Some (fresh start)) = λ w want.
+    let same : s ≡ w = same_Some s w (sym wants ∙ want) in
+    subst (λ x. max start (start + ahead (fresh start) next) ≤ start + (g.caster.numbered ((after.members m).boots c) - x)) same
+    (subst (λ (i : Member). max start (start + ahead (fresh start) next) ≤ start + (g.caster.numbered (i.boots c) - s)) (sym here) low) in
     record {
       after = after;
       runs = go_on (changes m l (steps_in at is begun)) none;
       caster = refl;
       others = λ i never. put_other m l g.members i never;
       one = here;
-      listens = listens_as after m c (told start next k) k.boot (Some (fresh start)) (kept.1 ∙ ap (λ (d : Contact). d.boot) stepping) (kept.0 ∙ ap (λ (d : Contact). d.window) stepping) (ap (λ (i : Member). i.at) here ∙ at)
-          (boots ∙ sym (ap (λ (i : Member). i.boots c) here)) (s, wants, number_again (s + 1), λ d t e. absurd (let no : ⊥ = cc in no));
+      listens = listens_as after m c (max start (start + ahead (fresh start) next)) (told start next k) k.boot (Some (fresh start)) (kept.1 ∙ ap (λ (d : Contact). d.boot) stepping) (kept.0 ∙ ap (λ (d : Contact). d.window) stepping) shows (ap (λ (i : Member). i.at) here ∙ at)
+          (boots ∙ sym (ap (λ (i : Member). i.boots c) here)) (s, wants, number_again (s + 1), λ d u e. absurd (let no : ⊥ = cc in no)) low_after;
     }
-tell_in g m c s next k (Some r) there at boots is begun =
+tell_in g m c s next stamp k (Some r) there h at boots is within begun t by_now recent =
     let start = number_of (s + 1) in
     let stepping = stepped_some start k r there in
     let kept = noted_window next (stepped start k) (stepped start k).window in
+    let shows : (told start next k).shown ≡ max k.shown (r.wanted + ahead r next) =
+    noted_shown next (stepped start k) (stepped start k).window r (ap (λ (d : Contact). d.window) stepping ∙ there) ∙ ap (λ (d : Contact). max d.shown (r.wanted + ahead r next)) stepping in
     record {
       after = g;
       runs = none;
       caster = refl;
       others = λ i never. refl;
       one = refl;
-      listens = listens_as g m c (told start next k) k.boot (Some r) (kept.1 ∙ ap (λ (d : Contact). d.boot) stepping) (kept.0 ∙ ap (λ (d : Contact). d.window) stepping ∙ there) at boots is;
+      listens = listens_as g m c (max k.shown (r.wanted + ahead r next)) (told start next k) k.boot (Some r) (kept.1 ∙ ap (λ (d : Contact). d.boot) stepping) (kept.0 ∙ ap (λ (d : Contact). d.window) stepping ∙ there) shows at boots is
+          (λ w want. shown_more g m c s next stamp w k.shown r h begun want (subst (λ x. number_of (x + 1) ≡ number_of r.wanted) (same_Some is.0 w (sym is.1 ∙ want)) is.2) t by_now recent (within w want));
     }
 
 -- the contact in which the member is
 same_contact : (g : Group) (m c d : ℕ) → (g.members m).at ≡ Some c → (g.members m).at ≡ Some d → c ≡ d
 same_contact g m c d one two = same_Some c d (sym one ∙ two)
 
-pub tell_runs : (g : Group) (m c s next : ℕ) (k : Contact) → IsListening g m (Some k) → (g.members m).at ≡ Some c → (g.members m).begun c ≡ Some s
-    → MemberTurns g m (λ l. l ≡ stepped_member (g.members m) c s k.window) (Some (told (number_of (s + 1)) next k))
-tell_runs g m c s next k h at begun =
+pub tell_runs : (g : Group) (m c s next stamp : ℕ) (k : Contact) → IsGroup g → IsListening g m (Some k) → (g.members m).at ≡ Some c → (g.members m).begun c ≡ Some s → ToldNext (g.members m) c next stamp → stamp ≤ g.caster.numbered ((g.members m).boots c)
+    → g.caster.numbered ((g.members m).boots c) ≤ stamp + 30000 → MemberTurns g m (λ l. l ≡ stepped_member (g.members m) c s k.window) (Some (told (number_of (s + 1)) next k))
+tell_runs g m c s next stamp k law h at begun t by_now recent =
     let same = same_contact g m h.0 c h.1 at in
-    tell_in g m c s next k k.window refl at (subst (λ d. k.boot ≡ (g.members m).boots d) same h.2) (subst (λ d. IsWindow g m d k.window) same h.3) begun
+    tell_in g m c s next stamp k k.window refl law at (subst (λ d. k.boot ≡ (g.members m).boots d) same h.2) (subst (λ d. IsWindow g m d k.window) same h.3) (subst (λ d. WasShownIn g m d k.shown k.window) same h.4) begun t by_now recent
 
 -- ---- packets are taken
 
@@ -306,9 +389,9 @@ abbrev Hears : Group → ℕ → List (List ℕ) → Member → Type 0
 Hears g m ps l = (c : ℕ) × ((g.members m).at ≡ Some c) × TookIn (g.members m) l c ps
 
 hear_in : (g : Group) (m c boot x set stamp : ℕ) (k : Contact) (r : Receiving) (t : Taken) → IsGroup g → IsNodeWord m → (g.members m).at ≡ Some c → k.boot ≡ (g.members m).boots c → boot ≡ k.boot → IsWindow g m c (Some r) → next_of r ≡ None
-    → IsCastAt g.caster boot x set stamp t.packet → is_member m set ≡ true → g.caster.numbered boot ≤ stamp + 30000 → t.number ≡ number_of (x + 1)
+    → IsCastAt g.caster boot x set stamp t.packet → is_member m set ≡ true → g.caster.numbered boot ≤ stamp + 30000 → t.number ≡ number_of (x + 1) → WasShownIn g m c k.shown (Some r)
     → MemberTurns g m (Hears g m (given (outcome_in t (Some r)))) (Some (taken_in k t (Some r)))
-hear_in g m c boot x set stamp k r t h node at boots era is free cast member fresh number =
+hear_in g m c boot x set stamp k r t h node at boots era is free cast member fresh number within =
     let n = g.members m in
     let a = g.caster in
     let w = is.0 in
@@ -329,13 +412,21 @@ hear_in g m c boot x set stamp k r t h node at boots era is free cast member fre
     let sum : w + (count + d) ≡ w + count + d = omega arith in
     subst (λ (b : Caster). IsAt b m c (l.boots c) (w + count + d) u.packet) (sym drained_by.caster)
     (subst (λ f. IsAt a m c f (w + count + d) u.packet) (sym boots_now) (subst (λ y. IsAt a m c boot y u.packet) sum (arrived.0 (count + d) u at_place))) in
+    let low = within w is.1 in
+    let wanted_is = arrived.1 in
+    let within_here : k.shown ≤ (drained q).wanted + (a.numbered (n.boots c) - (w + count)) = omega (arith, low, wanted_is) in
+    let within_after : WasShownIn after m c k.shown (Some (drained q)) = λ v want.
+    let same : w + count ≡ v = same_Some (w + count) v (sym drained_by.wants ∙ want) in
+    subst (λ y. k.shown ≤ (drained q).wanted + (after.caster.numbered (l.boots c) - y)) same
+    (subst (λ (b : Caster). k.shown ≤ (drained q).wanted + (b.numbered (l.boots c) - (w + count))) (sym drained_by.caster)
+    (subst (λ f. k.shown ≤ (drained q).wanted + (a.numbered f - (w + count))) (sym (ap (λ f. f c) took.boots)) within_here)) in
     record {
       after = after;
       runs = drained_by.runs;
       caster = drained_by.caster;
       others = drained_by.others;
       one = (c, at, subst (λ ps. TookIn n l c ps) told took);
-      listens = (c, took.at ∙ at, boots ∙ sym (ap (λ f. f c) took.boots), (w + count, drained_by.wants, numbers, holds));
+      listens = (c, took.at ∙ at, boots ∙ sym (ap (λ f. f c) took.boots), (w + count, drained_by.wants, numbers, holds), within_after);
     }
 
 -- ---- packets that are refused
@@ -354,10 +445,10 @@ refused_none own boot members k =
     ] refl
 
 heard_in : (g : Group) (m c boot x set stamp : ℕ) (k : Contact) (o : Option Receiving) (t : Taken) → is_some o ≡ true → IsGroup g → IsNodeWord m → (g.members m).at ≡ Some c → k.boot ≡ (g.members m).boots c → boot ≡ k.boot → IsWindow g m c o → IsFree o
-    → IsCastAt g.caster boot x set stamp t.packet → is_member m set ≡ true → g.caster.numbered boot ≤ stamp + 30000 → t.number ≡ number_of (x + 1)
+    → IsCastAt g.caster boot x set stamp t.packet → is_member m set ≡ true → g.caster.numbered boot ≤ stamp + 30000 → t.number ≡ number_of (x + 1) → WasShownIn g m c k.shown o
     → MemberTurns g m (Hears g m (given (outcome_in t o))) (Some (taken_in k t o))
-heard_in g m c boot x set stamp k None t some h node at boots era is free cast member fresh number = absurd (let no : ⊥ = cc in no)
-heard_in g m c boot x set stamp k (Some r) t some h node at boots era is free cast member fresh number = hear_in g m c boot x set stamp k r t h node at boots era is free cast member fresh number
+heard_in g m c boot x set stamp k None t some h node at boots era is free cast member fresh number within = absurd (let no : ⊥ = cc in no)
+heard_in g m c boot x set stamp k (Some r) t some h node at boots era is free cast member fresh number within = hear_in g m c boot x set stamp k r t h node at boots era is free cast member fresh number within
 
 hear_by : (g : Group) (m boot x set stamp : ℕ) (k : Contact) (t : Taken) (o : Option Why) → refusal m boot set k ≡ o → IsGroup g → IsNodeWord m → IsListening g m (Some k) → IsFree k.window → IsCastAt g.caster boot x set stamp t.packet → g.caster.numbered boot ≤ stamp + 30000 → t.number ≡ number_of (x + 1)
     → MemberTurns g m (Hears g m (given (heard_outcome t k o))) (Some (heard t k o))
@@ -365,7 +456,7 @@ hear_by g m boot x set stamp k t (Some reason) refused h node listens free cast 
     record { after = g; runs = none; caster = refl; others = λ i never. refl; one = (listens.0, listens.1, took_none (g.members m) listens.0); listens = listens }
 hear_by g m boot x set stamp k t None refused h node listens free cast fresh number =
     let may = refused_none m boot set k refused in
-    heard_in g m listens.0 boot x set stamp k k.window t may.1 h node listens.1 listens.2 may.0 listens.3 free cast may.2 fresh number
+    heard_in g m listens.0 boot x set stamp k k.window t may.1 h node listens.1 listens.2 may.0 listens.3 free cast may.2 fresh number listens.4
 
 pub hear_runs : (g : Group) (m boot x set stamp : ℕ) (k : Contact) (t : Taken) → IsGroup g → IsNodeWord m → IsListening g m (Some k) → IsFree k.window → IsCastAt g.caster boot x set stamp t.packet → g.caster.numbered boot ≤ stamp + 30000 → t.number ≡ number_of (x + 1)
     → MemberTurns g m (Hears g m (given (heard_outcome t k (refusal m boot set k)))) (Some (heard t k (refusal m boot set k)))

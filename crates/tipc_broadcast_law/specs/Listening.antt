@@ -1,6 +1,6 @@
 -- The member's side: how what the broadcast link of a member keeps of the caster stands in the law, and that its calls make the
 -- law's events. A member is named by its address word.
-use Rattle.std.specs.Prelude.{◌≡◌, true, ℕ, ◌+◌, ◌<◌, ◌≤◌, List, [], ◌∷◌, ◌++◌, map, slice_get, slice_index_or, Option, Some, None, is_some}
+use Rattle.std.specs.Prelude.{◌≡◌, ◌⊎◌, true, ℕ, ◌+◌, ◌-◌, ◌<◌, ◌≤◌, List, [], ◌∷◌, ◌++◌, map, slice_get, slice_index_or, Option, Some, None, is_some}
 use Rattle.tipc_types.specs.Address.{IsNodeWord}
 use Rattle.tipc_types.specs.Position.{number_of}
 use Rattle.tipc_types.specs.declared.packet_lists.Taken.{Taken}
@@ -32,10 +32,16 @@ IsWindow g m c None = (g.members m).want c ≡ None
 IsWindow g m c (Some r) = (w : ℕ) × ((g.members m).want c ≡ Some w) × (number_of (w + 1) ≡ number_of r.wanted)
     × HoldsAt g.caster m c ((g.members m).boots c) w r.held
 
+-- It was shown no more than has a number: the next position that was shown lies at most as far past the wanted one as the packets reach that are
+-- numbered in the contact's boot.
+abbrev pub WasShownIn : Group → ℕ → ℕ → ℕ → Option Receiving → Type 0
+WasShownIn g m c shown None = Unit {0}
+WasShownIn g m c shown (Some r) = (w : ℕ) → (g.members m).want c ≡ Some w → shown ≤ r.wanted + (g.caster.numbered ((g.members m).boots c) - w)
+
 -- what the member keeps of the caster, where it is in contact with it
 abbrev pub IsListening : Group → ℕ → Option Contact → Type 0
 IsListening g m None = (g.members m).at ≡ None
-IsListening g m (Some k) = (c : ℕ) × ((g.members m).at ≡ Some c) × (k.boot ≡ (g.members m).boots c) × IsWindow g m c k.window
+IsListening g m (Some k) = (c : ℕ) × ((g.members m).at ≡ Some c) × (k.boot ≡ (g.members m).boots c) × IsWindow g m c k.window × WasShownIn g m c k.shown k.window
 
 -- ---- what happens to it
 
@@ -64,9 +70,25 @@ abbrev pub stepped_member : Member → ℕ → ℕ → Option Receiving → Memb
 stepped_member k c start None = in_step_from k c start
 stepped_member k c start (Some r) = k
 
--- a STATE of the caster is taken, which shows the start of the contact
+-- In a contact the member had come to a place: that is its start, or it wants that place or one behind it.
+abbrev pub HadCome : Member → ℕ → ℕ → Type 0
+HadCome k c place = (k.begun c ≡ Some place) ⊎ ((w : ℕ) × (k.want c ≡ Some w) × (place ≤ w))
+
+-- A STATE of the caster told the member a next number in a contact, when this many packets of its boot had one. After the event in which it left `stamp` had
+-- one, all that was accepted at most, and no more than a window and what may wait past the place to which the member had come.
+pub record ToldNext (k : Member) (c next stamp : ℕ) : Type 0 where
+  pub numbered : ℕ
+  pub next_is : next ≡ number_of (numbered + 1)
+  pub by_then : numbered ≤ stamp
+  pub stamped : stamp ≤ numbered + queue
+  pub place : ℕ
+  pub had_come : HadCome k c place
+  pub near : stamp ≤ place + window + queue
+
+-- A STATE of the caster is taken, which it told in the contact, with the start and a next number; at most 30,000 were numbered since it left.
 abbrev pub TellRuns : Type 0
-TellRuns = (g : Group) (m c s next : ℕ) (k : Contact) → IsListening g m (Some k) → (g.members m).at ≡ Some c → (g.members m).begun c ≡ Some s
+TellRuns = (g : Group) (m c s next stamp : ℕ) (k : Contact) → IsGroup g → IsListening g m (Some k) → (g.members m).at ≡ Some c → (g.members m).begun c ≡ Some s
+    → ToldNext (g.members m) c next stamp → stamp ≤ g.caster.numbered ((g.members m).boots c) → g.caster.numbered ((g.members m).boots c) ≤ stamp + most_age
     → MemberTurns g m (λ l. l ≡ stepped_member (g.members m) c s k.window) (Some (told (number_of (s + 1)) next k))
 
 -- A broadcast packet that was sent: it is the one at a place of a boot, which has its number, with the set of the members for which it was

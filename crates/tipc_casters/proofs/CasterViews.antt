@@ -27,7 +27,7 @@ use Rattle.tipc_casters.specs.Deeds.{after_doing, DeedsDone, go_on, MayDo, none}
 use Rattle.tipc_casters.specs.Messages.{ArePiecesOf}
 use Rattle.tipc_casters.specs.Reading.{IsWritten}
 use Rattle.tipc_casters.specs.Sights.{Aired, CasterSight, contact_of, IsAired, IsCast, MemberSight, Told}
-use Rattle.tipc_casters.specs.Turns.{aired, hears_other, IsRight, joins, leaves, new_caster, new_member, restarted, sends, states}
+use Rattle.tipc_casters.specs.Turns.{aired, hears_other, IsRight, IsToldToMember, joins, leaves, new_caster, new_member, restarted, sends, states}
 use Rattle.tipc_casters.specs.ViewLaws.{begins, BeginsCast, ends, DoesDeeds, HearsOtherStaysCast, is_part, lasts, parted_from, MeetsMember, MeetsStaysCast, no_state, one_state, PartsStaysCast, put_one_more, RestartsStaysCast, SendsStaysCast, StaysCast, TellsState, TellsStaysCast, TellsTo}
 use Rattle.tipc_casters.specs.Views.{AreCastSeen, AreContactNumbers, CastsAreTrue, CasterView, FrontsAreCast, IsAmongSent, IsCasterSeen, IsCastOf, IsOther, MemberView}
 use Rattle.tipc_casters.proofs.CasterTurns.{cast_restarts}
@@ -441,11 +441,18 @@ tells_stays v ws more h tells =
           });
     }
   where
-    all_for : (m : ℕ) (d : IsOther v m ⊎ (IsOther v m → ⊥)) → All (λ (t : Told). (h.caster_sight.joined m ≡ Some t.contact) × (t.seen.start ≡ (shown h.caster_sight.casting m).start)) (for_others v m d (more m))
+    all_for : (m : ℕ) (d : IsOther v m ⊎ (IsOther v m → ⊥)) → All (IsToldToMember h.caster_sight m) (for_others v m d (more m))
     all_for m (inl o) =
-        All-weaker (TellsTo v m) (λ (t : Told). (h.caster_sight.joined m ≡ Some t.contact) × (t.seen.start ≡ (shown h.caster_sight.casting m).start))
-        (λ t is. (h.caster.joined m o ∙ is.contact, is.start ∙ ap (λ (x : Casting). (shown x m).start) (sym h.caster.casting))) (more m) (tells m o)
-    all_for m (inr never) = All-nil (λ (t : Told). (h.caster_sight.joined m ≡ Some t.contact) × (t.seen.start ≡ (shown h.caster_sight.casting m).start))
+        All-weaker (TellsTo v m) (IsToldToMember h.caster_sight m) (λ t is. record {
+          contact = h.caster.joined m o ∙ is.contact;
+          start = is.start ∙ ap (λ (x : Casting). (shown x m).start) (sym h.caster.casting);
+          numbered = is.numbered;
+          next = is.next;
+          by_then = is.by_then;
+          stamped = is.stamped;
+          near = subst (λ (x : Casting). t.stamp ≤ x.sending.numbered + 246) (sym h.caster.casting) is.near;
+        }) (more m) (tells m o)
+    all_for m (inr never) = All-nil (IsToldToMember h.caster_sight m)
 
 -- ---- the begin, and what follows
 

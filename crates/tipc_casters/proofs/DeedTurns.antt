@@ -1,6 +1,7 @@
 -- What each deed at its broadcast link makes of a caster keeps what is true of it and its members; and so do deeds one behind the other.
-use Rattle.std.proofs.Common.{◌≡◌, ◌<◌, ◌≤◌, ◌-◌, ◌^◌, ℕ, Bool, true, false, List, [], ◌∷◌, Option, Some, None, refl, sym, ap, subst, ◌∙◌, arith}
+use Rattle.std.proofs.Common.{◌≡◌, ◌<◌, ◌≤◌, ◌+◌, ◌-◌, ◌^◌, ℕ, zero, suc, Bool, true, false, if◌then◌else◌, List, [], ◌∷◌, length, map, Option, Some, None, refl, sym, ap, subst, ◌∙◌, arith}
 use Rattle.std.specs.Prelude.{is_some}
+use Rattle.std.proofs.lemmas.List.{length-append, length-map}
 use Rattle.tipc_types.specs.declared.link_words.BroadcastState.{BroadcastState}
 use Rattle.tipc_types.specs.declared.link_words.Why.{Why}
 use Rattle.tipc_types.specs.declared.packet_lists.Taken.{Taken}
@@ -9,8 +10,9 @@ use Rattle.tipc_header.specs.Spelling.{Fields}
 use Rattle.tipc_send_window.specs.Sending.{IsSending}
 use Rattle.tipc_recv_window.specs.Receiving.{Receiving}
 use Rattle.tipc_broadcast.specs.declared.contacts.Contact.{Contact}
-use Rattle.tipc_broadcast.specs.Casting.{accepted, accepting, Casting, flushed, hearing, kept_for, stating, with_contacts, with_message}
-use Rattle.tipc_broadcast.specs.Contacts.{carried, contact_with, heard, refusal, taken_in}
+use Rattle.tipc_broadcast.specs.Casting.{accepted, accepting, answered, Casting, credited, flushed, hearing, informed, kept_for, left_with, moved_up, settled, stating, with_contacts, with_message}
+use Rattle.tipc_broadcast.specs.Contacts.{carried, contact_with, heard, member_set, refusal, taken_in, without}
+use Rattle.tipc_broadcast.specs.Frames.{accepted_frame}
 use Rattle.tipc_broadcast.specs.Deeds.{CastDeed, IsLawful, after_deed, after_deeds, sends_nothing}
 use Rattle.tipc_broadcast.proofs.Apart.{accepted_flushed}
 use Rattle.tipc_broadcast.proofs.Deeds.{deed_node}
@@ -110,8 +112,15 @@ accepted_kept : (cs : List Contact) (v : Casting) → accepted (kept_for cs v).s
 accepted_kept [] v = omega arith
 accepted_kept (c ∷ cs) v = refl
 
-accepted_sent : (v : Casting) (pieces : List (List ℕ)) → accepted (accepting v pieces).sending ≡ accepted (with_message v pieces).sending
+pub accepted_sent : (v : Casting) (pieces : List (List ℕ)) → accepted (accepting v pieces).sending ≡ accepted (with_message v pieces).sending
 accepted_sent v pieces = accepted_kept v.contacts (flushed (with_message v pieces)) ∙ accepted_flushed (with_message v pieces)
+
+pub accepted_with : (v : Casting) (pieces : List (List ℕ)) → accepted (with_message v pieces).sending ≡ accepted v.sending + length pieces
+accepted_with v pieces =
+    let frames = map (accepted_frame v.own v.boot (member_set v.contacts)) pieces in
+    let all = length-append v.sending.waiting frames in
+    let one = length-map pieces (accepted_frame v.own v.boot (member_set v.contacts)) in
+    omega (arith, all, one)
 
 sends_right : (a : CasterSight) (ms : ℕ → MemberSight) (pieces : List (List ℕ)) → IsCast a ms → accepted (accepting a.casting pieces).sending ≤ 2 ^ 62 → IsSending (with_message a.casting pieces).sending
 sends_right a ms pieces h counted = record { window = h.caster.window.window; numbered = h.caster.window.numbered; counted = subst (λ n. n ≤ 2 ^ 62) (accepted_sent a.casting pieces) counted }

@@ -76,7 +76,7 @@ changed_there peer change (c ∷ cs) k keeps there = by (changed_there peer chan
 -- ---- by one deed
 
 kept_itself : (k : Contact) → IsKeptAs k k
-kept_itself k = record { boot = refl; window = refl }
+kept_itself k = record { boot = refl; window = refl; shown = refl }
 
 stated_there : (peer : ℕ) (v : Casting) (seen : BroadcastState) (k : Contact) (b : Bool) → contact_with peer v.contacts ≡ Some k
     → (l : Contact) × (contact_with peer (if b then answered (informed v peer seen.start seen.next) peer seen.acknowledged else informed v peer seen.start seen.next).contacts ≡ Some l) × IsKeptAs (told seen.start seen.next k) l
@@ -85,7 +85,7 @@ stated_there peer v seen k true there =
     let u = informed v peer seen.start seen.next in
     let first = changed_there peer (told seen.start seen.next) v.contacts k (told_keeps seen.start seen.next) there in
     let credit = acknowledging u.sending.numbered seen.acknowledged in
-    (credit (told seen.start seen.next k), ap (contact_with peer) (answered_alike u peer seen.acknowledged).contacts ∙ changed_there peer credit u.contacts (told seen.start seen.next k) (λ c. (refl, refl)) first, record { boot = refl; window = refl })
+    (credit (told seen.start seen.next k), ap (contact_with peer) (answered_alike u peer seen.acknowledged).contacts ∙ changed_there peer credit u.contacts (told seen.start seen.next k) (λ c. (refl, refl)) first, record { boot = refl; window = refl; shown = refl })
 
 or_true : (a : Bool) → (a || false) ≡ true → a ≡ true
 or_true true is = refl

@@ -188,7 +188,7 @@ turns_stay v ws m w' h other t = by t.happens
         (carried_on v ws m w1 (λ x. x.heard ≡ Some k) (λ x. record x { heard = Some l }) (λ ns g is. keeps_stays v ns m k l g other is same) first here) (lasting (Some l) stays heard)
     by (learns k stays here l) = finish v ws m w' (record w1 { heard = Some l.kept }) t.more s other t.told_is
         (carried_on v ws m w1 (λ x. (x.heard ≡ Some k) × Contains x.hears l.state × (x.at ≡ Some l.state.contact)) (λ x. record x { heard = Some l.kept })
-        (λ ns g is. learns_stays v ns m l.state k l.kept g other is.0 is.1 is.2 l.as_told) first (here, l.there, l.contact)) (lasting (Some l.kept) stays l.heard_is)
+        (λ ns g is. learns_stays v ns m l.state k l.kept g other is.0 is.1 is.2 l.by_now l.recent l.as_told) first (here, l.there, l.contact)) (lasting (Some l.kept) stays l.heard_is)
     by (takes k) = finish v ws m w' (record w1 { heard = Some k.after; given = given_at k.contact (packets_in k.opened) w.given; begun = w'.begun }) t.more s other t.told_is
         (carried_on v ws m w1 (λ x. (x.heard ≡ Some k.before) × (x.at ≡ Some k.contact) × BringsAll x.begun (packets_due (heard_outcome (carried k.packet k.by) k.before (refused m k.boot k.set k.before))) k.opened w'.begun)
         (λ x. record x { heard = Some k.after; given = given_at k.contact (packets_in k.opened) x.given; begun = w'.begun })
@@ -197,7 +197,7 @@ turns_stay v ws m w' h other t = by t.happens
     by (enters c k e heard) = finish v ws m w' (record w1 { at = Some c; entered = w.entered ++ c ∷ []; heard = Some k; begun = fresh }) t.more s other t.told_is (entered c k e) (entering c k k e heard)
     by (enters_told c k e l) = finish v ws m w' (record w1 { at = Some c; entered = w.entered ++ c ∷ []; heard = Some l.kept; begun = fresh }) t.more s other t.told_is
         (carried_on v ws m (record w1 { at = Some c; entered = w.entered ++ c ∷ []; heard = Some k; begun = fresh }) (λ x. (x.heard ≡ Some k) × Contains x.hears l.state × (x.at ≡ Some l.state.contact))
-        (λ x. record x { heard = Some l.kept }) (λ ns g is. learns_stays v ns m l.state k l.kept g other is.0 is.1 is.2 l.as_told) (entered c k e) (refl, l.there, sym e.at ∙ l.contact)) (entering c k l.kept e l.heard_is)
+        (λ x. record x { heard = Some l.kept }) (λ ns g is. learns_stays v ns m l.state k l.kept g other is.0 is.1 is.2 l.by_now l.recent l.as_told) (entered c k e) (refl, l.there, sym e.at ∙ l.contact)) (entering c k l.kept e l.heard_is)
     by (quits away heard given) = finish v ws m w' (record w1 { at = None; heard = None; begun = w'.begun }) t.more s other t.told_is
         (carried_on v ws m w1 (λ x. Unit {0}) (λ x. record x { at = None; heard = None; begun = w'.begun }) (λ ns g is. quits_stays v ns m w'.begun g other) first tt)
         (record { at = away; entered = t.entered; heard = heard; given = λ own theirs numbers. given own theirs; begun = refl; told = refl; hears = t.hears })

@@ -1,5 +1,5 @@
 -- More that may happen at a member: it tells a STATE out of step, its broadcast link keeps other things of the caster, and a broadcast frame is read.
-use Rattle.std.proofs.Common.{◌≡◌, ◌%◌, ◌<◌, ◌^◌, ℕ, true, false, List, [], ◌++◌, Option, Some, None, refl, sym, ap, subst, ◌∙◌, inl, inr, arith}
+use Rattle.std.proofs.Common.{◌≡◌, ◌⊎◌, ◌%◌, ◌<◌, ◌^◌, ℕ, true, false, List, [], ◌++◌, Option, Some, None, refl, sym, ap, subst, ◌∙◌, inl, inr, arith}
 use Rattle.std.specs.Prelude.{All, IfSome}
 use Rattle.std.proofs.lemmas.List.Elements.{All-append, All-weaker}
 use Rattle.tipc_header.specs.Frames.{frame_of}
@@ -7,15 +7,13 @@ use Rattle.tipc_header.specs.Grammar.{Fits}
 use Rattle.tipc_header.specs.Spelling.{Fields, spelling}
 use Rattle.tipc_recv_window.specs.Receiving.{Receiving}
 use Rattle.tipc_broadcast.specs.declared.contacts.Contact.{Contact}
-use Rattle.tipc_broadcast.specs.Casting.{shown}
 use Rattle.tipc_broadcast.specs.Contacts.{carried, IsFree}
 use Rattle.tipc_broadcast_law.specs.Groups.{Group, Member}
-use Rattle.tipc_broadcast_law.specs.Listening.{IsListening, IsWindow}
-use Rattle.tipc_broadcast_law.proofs.calls.Stating.{starts_are_shown}
+use Rattle.tipc_broadcast_law.specs.Listening.{IsListening, WasShownIn, IsWindow}
 use Rattle.tipc_broadcast_law.proofs.Places.{put_other, put_same, same_or_not}
 use Rattle.tipc_casters.specs.Sights.{Aired, CasterSight, IsCast, IsMember, IsToldBy, IsToldTo, MemberSight, ReadsAs, Told}
-use Rattle.tipc_casters.specs.Turns.{listens_as, with_member}
-use Rattle.tipc_casters.proofs.MemberTurns.{seen_anew}
+use Rattle.tipc_casters.specs.Turns.{IsToldToMember, listens_as, with_member}
+use Rattle.tipc_casters.proofs.MemberTurns.{seen_anew, told_of}
 use Rattle.tipc_casters.proofs.Reading.{frames_are_read}
 
 -- the same members, one by one
@@ -33,18 +31,26 @@ put_twice ms m s t i = elim (same_or_not i m) [
 pub tells_nothing : (g : Group) (m : ℕ) (t : Told) → t.seen.in_step ≡ false → IsToldBy g m t
 tells_nothing g m t apart step = absurd (let both : true ≡ false = sym step ∙ apart in let wrong : ⊥ = cc in wrong)
 
--- the law sees only the boot and the window of what is kept of the caster
-listens_on : (g : Group) (m : ℕ) (k l : Contact) → l.boot ≡ k.boot → l.window ≡ k.window → IsListening g m (Some k) → IsListening g m (Some l)
-listens_on g m k l boot window is = (is.0, is.1, boot ∙ is.2, subst (λ (o : Option Receiving). IsWindow g m is.0 o) (sym window) is.3)
+-- what was shown is the same, or there is no window, of which it would tell
+abbrev pub ShowsAs : Contact → Contact → Type 0
+ShowsAs k l = (l.shown ≡ k.shown) ⊎ (l.window ≡ None)
 
-pub member_keeps : (a : CasterSight) (ms : ℕ → MemberSight) (m : ℕ) (k l : Contact) → IsCast a ms → (ms m).heard ≡ Some k → l.boot ≡ k.boot → l.window ≡ k.window → IsCast a (with_member ms m (listens_as (ms m) l))
-member_keeps a ms m k l h here boot window =
+shown_on : (g : Group) (m c : ℕ) (k l : Contact) → l.window ≡ k.window → ShowsAs k l → WasShownIn g m c k.shown k.window → WasShownIn g m c l.shown l.window
+shown_on g m c k l window (inl shows) is = subst (λ n. WasShownIn g m c n l.window) (sym shows) (subst (λ (o : Option Receiving). WasShownIn g m c k.shown o) (sym window) is)
+shown_on g m c k l window (inr none) is = subst (λ (o : Option Receiving). WasShownIn g m c l.shown o) (sym none) tt
+
+-- the law sees only the boot, the window and what was shown of what is kept of the caster
+listens_on : (g : Group) (m : ℕ) (k l : Contact) → l.boot ≡ k.boot → l.window ≡ k.window → ShowsAs k l → IsListening g m (Some k) → IsListening g m (Some l)
+listens_on g m k l boot window shows is = (is.0, is.1, boot ∙ is.2, subst (λ (o : Option Receiving). IsWindow g m is.0 o) (sym window) is.3, shown_on g m is.0 k l window shows is.4)
+
+pub member_keeps : (a : CasterSight) (ms : ℕ → MemberSight) (m : ℕ) (k l : Contact) → IsCast a ms → (ms m).heard ≡ Some k → l.boot ≡ k.boot → l.window ≡ k.window → ShowsAs k l → IsCast a (with_member ms m (listens_as (ms m) l))
+member_keeps a ms m k l h here boot window shows =
     let is = h.members m in
     seen_anew a ms m (listens_as (ms m) l) h (record {
       boots = is.boots;
       at = is.at;
       last = is.last;
-      listens = listens_on h.group m k l boot window (subst (IsListening h.group m) here is.listens);
+      listens = listens_on h.group m k l boot window shows (subst (IsListening h.group m) here is.listens);
       free = subst (λ (o : Option Receiving). IsFree o) (sym window) (subst (λ o. IfSome o (λ d. IsFree d.window)) here is.free);
       given = is.given;
       told = is.told;
@@ -52,21 +58,15 @@ member_keeps a ms m k l h here boot window =
     })
 
 -- what is kept of the caster after something else happened to the member
-pub keeps_then : (a : CasterSight) (ms : ℕ → MemberSight) (m : ℕ) (s : MemberSight) (k l : Contact) → IsCast a (with_member ms m s) → s.heard ≡ Some k → l.boot ≡ k.boot → l.window ≡ k.window → IsCast a (with_member ms m (listens_as s l))
-keeps_then a ms m s k l h here boot window =
+pub keeps_then : (a : CasterSight) (ms : ℕ → MemberSight) (m : ℕ) (s : MemberSight) (k l : Contact) → IsCast a (with_member ms m s) → s.heard ≡ Some k → l.boot ≡ k.boot → l.window ≡ k.window → ShowsAs k l → IsCast a (with_member ms m (listens_as s l))
+keeps_then a ms m s k l h here boot window shows =
     let ns = with_member ms m s in
     let at : ns m ≡ s = put_same m s ms in
     same_members a (with_member ns m (listens_as s l)) (with_member ms m (listens_as s l)) (put_twice ms m s (listens_as s l))
-    (subst (λ (x : MemberSight). IsCast a (with_member ns m (listens_as x l))) at (member_keeps a ns m k l h (ap (λ (x : MemberSight). x.heard) at ∙ here) boot window))
+    (subst (λ (x : MemberSight). IsCast a (with_member ns m (listens_as x l))) at (member_keeps a ns m k l h (ap (λ (x : MemberSight). x.heard) at ∙ here) boot window shows))
 
 -- the caster tells members
-told_start : (a : CasterSight) (ms : ℕ → MemberSight) (m : ℕ) (t : Told) (h : IsCast a ms) → a.joined m ≡ Some t.contact → t.seen.start ≡ (shown a.casting m).start → IsToldTo h.group m t
-told_start a ms m t h joined shows =
-    let here : (h.group.members m).joined ≡ Some t.contact = h.caster.joined m ∙ joined in
-    let begun = (h.law.each m).joined_begun t.contact here in
-    (begun.0, begun.1, shows ∙ starts_are_shown h.group a.casting m t.contact begun.0 h.caster.stands here begun.1)
-
-pub caster_tells_all : (a : CasterSight) (ms : ℕ → MemberSight) (more : ℕ → List Told) → IsCast a ms → ((m : ℕ) → All (λ t. (a.joined m ≡ Some t.contact) × (t.seen.start ≡ (shown a.casting m).start)) (more m))
+pub caster_tells_all : (a : CasterSight) (ms : ℕ → MemberSight) (more : ℕ → List Told) → IsCast a ms → ((m : ℕ) → All (IsToldToMember a m) (more m))
     → IsCast a (λ m. record (ms m) { hears = (ms m).hears ++ more m })
 caster_tells_all a ms more h all = record {
   group = h.group;
@@ -83,7 +83,7 @@ caster_tells_all a ms more h all = record {
         given = is.given;
         told = is.told;
         hears = All-append (IsToldTo h.group m) (ms m).hears (more m) is.hears
-            (All-weaker (λ (t : Told). (a.joined m ≡ Some t.contact) × (t.seen.start ≡ (shown a.casting m).start)) (IsToldTo h.group m) (λ t tells. told_start a ms m t h tells.0 tells.1) (more m) (all m));
+            (All-weaker (IsToldToMember a m) (IsToldTo h.group m) (λ t tells. told_of a ms m t h tells) (more m) (all m));
       };
 }
 

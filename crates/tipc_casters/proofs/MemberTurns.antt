@@ -13,21 +13,22 @@ use Rattle.tipc_recv_window.specs.Receiving.{fresh, Receiving, with_packet}
 use Rattle.tipc_recv_window.proofs.Runs.{run_leaves}
 use Rattle.tipc_broadcast.specs.declared.contacts.Contact.{Contact}
 use Rattle.tipc_broadcast.specs.Contacts.{contact_with, heard, heard_outcome, is_in_step, IsFree, joined, noted_in, refusal, shown_in, stepped, taken_in, told}
-use Rattle.tipc_broadcast.specs.Casting.{accepted, booted, shown}
+use Rattle.tipc_broadcast.specs.Casting.{accepted, booted}
 use Rattle.tipc_broadcast_law.specs.Groups.{Accepted, accepted_for, Caster, Group, length_now, Member, numbered_now, place, put}
 use Rattle.tipc_broadcast_law.specs.Events.{entered, left}
+use Rattle.tipc_broadcast_law.specs.Law.{IsGroup}
 use Rattle.tipc_broadcast_law.specs.Lines.{IsLined}
-use Rattle.tipc_broadcast_law.specs.Listening.{given, IsCastAt, IsListening, IsWindow, stepped_member, TookIn, MemberTurns}
+use Rattle.tipc_broadcast_law.specs.Listening.{given, HadCome, IsCastAt, IsListening, IsWindow, stepped_member, TookIn, MemberTurns}
 use Rattle.tipc_broadcast_law.specs.Steps.{IsSeen}
 use Rattle.tipc_broadcast_law.proofs.CasterEvents.{run_keeps}
 use Rattle.tipc_broadcast_law.proofs.Consequences.{begins_sound, taken_front}
 use Rattle.tipc_broadcast_law.proofs.Listening.{enter_runs, hear_runs, quit_runs, taken_is_shown, tell_runs}
-use Rattle.tipc_broadcast_law.proofs.MemberEvents.{place-want}
+use Rattle.tipc_broadcast_law.proofs.MemberEvents.{place-begun, place-want}
 use Rattle.tipc_broadcast_law.proofs.calls.Stating.{starts_are_shown}
 use Rattle.tipc_broadcast_law.proofs.Places.{put_other, put_same, same_or_not}
 use Rattle.tipc_casters.specs.Later.{IsLater}
 use Rattle.tipc_casters.specs.Sights.{Aired, boot_in, CasterSight, IsAired, IsCast, IsCaster, IsMember, IsSentPiece, IsToldBy, IsToldTo, MemberSight, ReadsAs, Told}
-use Rattle.tipc_casters.specs.Turns.{enters, hears_packet, is_to_hear, is_told, IsRight, new_caster, new_member, quits, tells, with_member}
+use Rattle.tipc_casters.specs.Turns.{enters, hears_packet, is_to_hear, is_told, IsRight, IsToldToMember, new_caster, new_member, quits, tells, with_member}
 use Rattle.tipc_casters.proofs.Later.{runs_later}
 use Rattle.tipc_casters.proofs.Standing.{aired_later, member_later, same_side, SameMember, told_by_later, told_to_later}
 
@@ -158,14 +159,18 @@ told_free start next k free = noted_free next (stepped start k) (stepped start k
 ])
 
 pub member_is_told : (a : CasterSight) (ms : ℕ → MemberSight) (m : ℕ) (k : Contact) (t : Told) → IsCast a ms → (ms m).heard ≡ Some k → Contains (ms m).hears t → (ms m).at ≡ Some t.contact
-    → IsCast a (with_member ms m (is_told (ms m) k t.seen))
-member_is_told a ms m k t h keeps there at =
+    → t.stamp ≤ a.numbered (boot_in t.contact) → a.numbered (boot_in t.contact) ≤ t.stamp + 30000 → IsCast a (with_member ms m (is_told (ms m) k t.seen))
+member_is_told a ms m k t h keeps there at by_now recent =
     let g = h.group in
     let n = g.members m in
     let is = h.members m in
     let shown : IsToldTo g m t = All-contains (IsToldTo g m) (ms m).hears t is.hears there in
     let s = shown.0 in
-    let turn = tell_runs g m t.contact s t.seen.next k (subst (IsListening g m) keeps is.listens) (is.at ∙ at) shown.1 in
+    let recent_here : g.caster.numbered (n.boots t.contact) ≤ t.stamp + 30000 =
+    subst (λ b. g.caster.numbered b ≤ t.stamp + 30000) (sym (is.boots t.contact)) (subst (λ x. x ≤ t.stamp + 30000) (sym (h.caster.numbered (boot_in t.contact))) recent) in
+    let by_now_here : t.stamp ≤ g.caster.numbered (n.boots t.contact) =
+    subst (λ b. t.stamp ≤ g.caster.numbered b) (sym (is.boots t.contact)) (subst (λ x. t.stamp ≤ x) (sym (h.caster.numbered (boot_in t.contact))) by_now) in
+    let turn = tell_runs g m t.contact s t.seen.next t.stamp k h.law (subst (IsListening g m) keeps is.listens) (is.at ∙ at) shown.1 shown.3 by_now_here recent_here in
     let one : turn.after.members m ≡ stepped_member n t.contact s k.window = turn.one in
     let same : SameSides n (turn.after.members m) = subst (SameSides n) (sym one) (stepped_sides n t.contact s k.window) in
     turned_at a ms m (is_told (ms m) k t.seen) _ (λ l. l ≡ stepped_member n t.contact s k.window) h turn same.seen (λ later. record {
@@ -292,13 +297,43 @@ member_tells a ms m next start k t h keeps at stamp shows =
     let told : IsToldBy h.group m t = tells_place a ms m next start k t h keeps at stamp shows in
     says_more a ms m (t ∷ []) h (All-cons (IsToldBy h.group m) t [] told (All-nil (IsToldBy h.group m)))
 
-pub caster_tells : (a : CasterSight) (ms : ℕ → MemberSight) (m : ℕ) (t : Told) → IsCast a ms → a.joined m ≡ Some t.contact → t.seen.start ≡ (shown a.casting m).start → IsCast a (with_member ms m (is_to_hear (ms m) t))
-caster_tells a ms m t h joined shows =
+-- how far the member had come
+came_to : (k : Member) (c s : ℕ) → k.begun c ≡ Some s → HadCome k c (place k c)
+came_to k c s begun = by (k.want c) refl
+  where
+    by : (o : Option ℕ) → k.want c ≡ o → HadCome k c (place k c)
+    by None none = inl (begun ∙ ap Some (sym (place-begun k c s none begun)))
+    by (Some w) want = inr (w, want, (let is = place-want k c w want in omega (arith, is)))
+
+pub told_of : (a : CasterSight) (ms : ℕ → MemberSight) (m : ℕ) (t : Told) (h : IsCast a ms) → IsToldToMember a m t → IsToldTo h.group m t
+told_of a ms m t h told =
+    let g = h.group in
+    let k = g.members m in
+    let c = t.contact in
+    let here : k.joined ≡ Some c = h.caster.joined m ∙ told.contact in
+    let begun = (h.law.each m).joined_begun c here in
+    let low = told.near in
+    let near = (h.law.each m).joined_near c here in
+    let now = h.caster.stands.numbered in (
+      begun.0,
+      begun.1,
+      told.start ∙ starts_are_shown g a.casting m c begun.0 h.caster.stands here begun.1,
+      record {
+        numbered = told.numbered;
+        next_is = told.next;
+        by_then = told.by_then;
+        stamped = told.stamped;
+        place = place k c;
+        had_come = came_to k c begun.0 begun.1;
+        near = omega (arith, near, now, low);
+      },
+    )
+
+pub caster_tells : (a : CasterSight) (ms : ℕ → MemberSight) (m : ℕ) (t : Told) → IsCast a ms → IsToldToMember a m t → IsCast a (with_member ms m (is_to_hear (ms m) t))
+caster_tells a ms m t h tells =
     let g = h.group in
     let is = h.members m in
-    let here : (g.members m).joined ≡ Some t.contact = h.caster.joined m ∙ joined in
-    let begun = (h.law.each m).joined_begun t.contact here in
-    let told : IsToldTo g m t = (begun.0, begun.1, shows ∙ starts_are_shown g a.casting m t.contact begun.0 h.caster.stands here begun.1) in
+    let told : IsToldTo g m t = told_of a ms m t h tells in
     seen_anew a ms m (is_to_hear (ms m) t) h (record {
       boots = is.boots;
       at = is.at;

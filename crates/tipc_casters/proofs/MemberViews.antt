@@ -149,7 +149,7 @@ enters_stays v ws m c k h other may boot window =
     let cast = member_enters a h.member_sights m k.peer.word k.start c h.cast (is.at ∙ may.away) low (subst (λ (n : ℕ). boot_in c ≤ n) (ap (λ x. x.boot) (sym h.caster.casting)) may.era)
     (λ d t begun. All-contains (λ (d : ℕ). d ≤ c) (v.entered m) d may.newest (h.caster.begun m d t other begun)) in
     one_member v ws m s2 (record (ws m) { at = Some c; entered = (ws m).entered ++ c ∷ []; heard = Some k; begun = fresh }) h
-    (keeps_then a h.member_sights m s1 (new_contact k.peer.word (boot_in c) k.start) k cast refl boot window) (record {
+    (keeps_then a h.member_sights m s1 (new_contact k.peer.word (boot_in c) k.start) k cast refl boot window (inr window)) (record {
       at = refl;
       last = inr (Contains-push (ws m).entered c);
       heard = refl;
@@ -195,16 +195,17 @@ pub keeps_stays : KeepsStaysCast
 keeps_stays v ws m k l h other here same =
     let is = h.members m other in
     one_member v ws m (listens_as (h.member_sights m) l) (record (ws m) { heard = Some l }) h
-    (member_keeps h.caster_sight h.member_sights m k l h.cast (is.heard ∙ here) same.boot same.window) (heard_seen (h.member_sights m) (ws m) l is)
+    (member_keeps h.caster_sight h.member_sights m k l h.cast (is.heard ∙ here) same.boot same.window (inl same.shown)) (heard_seen (h.member_sights m) (ws m) l is)
 
 pub learns_stays : LearnsStaysCast
-learns_stays v ws m t k l h other here there at same =
+learns_stays v ws m t k l h other here there at by_now recent same =
     let s = h.member_sights m in
     let is = h.members m other in
     let s1 = is_told s k t.seen in
-    let cast = member_is_told h.caster_sight h.member_sights m k t h.cast (is.heard ∙ here) (contains_on (ws m).hears s.hears t is.hears there) (is.at ∙ at) in
+    let cast = member_is_told h.caster_sight h.member_sights m k t h.cast (is.heard ∙ here) (contains_on (ws m).hears s.hears t is.hears there) (is.at ∙ at)
+    (subst (λ n. t.stamp ≤ n) (sym (h.caster.numbered (boot_in t.contact))) by_now) (subst (λ n. n ≤ t.stamp + 30000) (sym (h.caster.numbered (boot_in t.contact))) recent) in
     one_member v ws m (listens_as s1 l) (record (ws m) { heard = Some l }) h
-    (keeps_then h.caster_sight h.member_sights m s1 (told t.seen.start t.seen.next k) l cast refl same.boot same.window) (heard_seen s (ws m) l is)
+    (keeps_then h.caster_sight h.member_sights m s1 (told t.seen.start t.seen.next k) l cast refl same.boot same.window (inl same.shown)) (heard_seen s (ws m) l is)
 
 -- ---- a broadcast packet
 
@@ -276,7 +277,7 @@ takes_stays v ws m c boot set by p k l opened begun h other here at f same bring
     let cast = member_hears a h.member_sights m c boot (set % 2 ^ 32) frame k t h.cast other.0 (is.heard ∙ here) (is.at ∙ at) found.1 (reads_as a h.member_sights h.cast frame boot set by p f.boot_fits f.set_fits f.fits f.bytes) fresh_still in
     let s1 = hears_packet s m c boot (set % 2 ^ 32) k t in
     one_member v ws m (listens_as s1 l) (record (ws m) { heard = Some l; given = given_at c (packets_in opened) (ws m).given; begun = begun }) h
-    (keeps_then a h.member_sights m s1 (heard t k why) l cast refl same.boot same.window) (record {
+    (keeps_then a h.member_sights m s1 (heard t k why) l cast refl same.boot same.window (inl same.shown)) (record {
       at = is.at;
       last = is.last;
       heard = refl;

@@ -1,5 +1,5 @@
 -- What is true of members, frames and STATEs stays so while other things happen.
-use Rattle.std.proofs.Common.{◌≡◌, ℕ, ◌+◌, ◌≤◌, List, Option, Some, None, refl, sym, ◌∙◌, subst, inl, inr, arith}
+use Rattle.std.proofs.Common.{◌≡◌, ℕ, ◌+◌, ◌-◌, ◌≤◌, List, Option, Some, None, refl, sym, ◌∙◌, subst, inl, inr, arith}
 use Rattle.std.specs.Prelude.{slice_get}
 use Rattle.std.proofs.lemmas.List.Elements.{All-weaker}
 use Rattle.tipc_recv_window.specs.Receiving.{Receiving}
@@ -7,7 +7,7 @@ use Rattle.tipc_broadcast.specs.declared.contacts.Contact.{Contact}
 use Rattle.tipc_broadcast_law.specs.Groups.{Accepted, Caster, Group, mark, mark_in, Member, put}
 use Rattle.tipc_broadcast_law.specs.Law.{IsGroup}
 use Rattle.tipc_broadcast_law.specs.Lines.{IsCastFrame}
-use Rattle.tipc_broadcast_law.specs.Listening.{IsAt, IsListening, IsWindow}
+use Rattle.tipc_broadcast_law.specs.Listening.{HadCome, IsAt, IsListening, WasShownIn, IsWindow}
 use Rattle.tipc_broadcast_law.specs.Steps.{ToldPlace}
 use Rattle.tipc_broadcast_law.proofs.Listening.{mark-is, packets_one}
 use Rattle.tipc_broadcast_law.proofs.Places.{put_other, put_same, same_or_not}
@@ -61,10 +61,18 @@ window_later g h m c (Some r) later same within is =
     let f = (g.members m).boots c in
     (is.0, same.want c ∙ is.1, is.2, λ d t there. subst (λ b. IsAt h.caster m c b (is.0 + d) t.packet) (sym (same.boots c)) (is_at_later g.caster h.caster m c f (is.0 + d) t.packet later within (is.3 d t there)))
 
+shown_later : (g h : Group) (m c shown : ℕ) (o : Option Receiving) → IsLaterCaster g.caster h.caster → SameMember (g.members m) (h.members m) → (g.members m).boots c ≤ g.caster.boot → WasShownIn g m c shown o → WasShownIn h m c shown o
+shown_later g h m c shown None later same within is = tt
+shown_later g h m c shown (Some r) later same within is = λ w want.
+    let low = is w (sym (same.want c) ∙ want) in
+    let more = later.numbered ((g.members m).boots c) within in
+    let here : shown ≤ r.wanted + (h.caster.numbered ((g.members m).boots c) - w) = omega (arith, low, more) in
+    subst (λ b. shown ≤ r.wanted + (h.caster.numbered b - w)) (sym (same.boots c)) here
+
 pub listening_later : (g h : Group) (m : ℕ) (o : Option Contact) → IsLaterCaster g.caster h.caster → SameMember (g.members m) (h.members m) → ((c : ℕ) → (g.members m).at ≡ Some c → (g.members m).boots c ≤ g.caster.boot) → IsListening g m o → IsListening h m o
 listening_later g h m None later same within is = same.at ∙ is
 listening_later g h m (Some k) later same within is =
-    (is.0, same.at ∙ is.1, is.2 ∙ sym (same.boots is.0), window_later g h m is.0 k.window later same (within is.0 is.1) is.3)
+    (is.0, same.at ∙ is.1, is.2 ∙ sym (same.boots is.0), window_later g h m is.0 k.window later same (within is.0 is.1) is.3, shown_later g h m is.0 k.shown k.window later same (within is.0 is.1) is.4)
 
 -- ---- what is in the air
 
@@ -106,8 +114,27 @@ told_place_later g h m c place stamp later t =
 pub told_by_later : (g h : Group) (m : ℕ) (t : Told) → IsLaterMember (g.members m) (h.members m) → IsToldBy g m t → IsToldBy h m t
 told_by_later g h m t later is = λ step. let told = is step in (told.0, told.1, told_place_later g h m t.contact told.0 t.stamp later told.2)
 
+had_come_later : (k l : Member) (c place : ℕ) → IsLaterMember k l → HadCome k c place → HadCome l c place
+had_come_later k l c place later (inl start) = inl (later.begun c place start)
+had_come_later k l c place later (inr come) = inr (let more = later.want c come.0 come.1 in let had = come.2 in let rises = more.2 in (more.0, more.1, omega (arith, had, rises)))
+
 pub told_to_later : (g h : Group) (m : ℕ) (t : Told) → IsLaterMember (g.members m) (h.members m) → IsToldTo g m t → IsToldTo h m t
-told_to_later g h m t later is = (is.0, later.begun t.contact is.0 is.1, is.2)
+told_to_later g h m t later is =
+    let n = is.3 in
+    let c = t.contact in (
+      is.0,
+      later.begun c is.0 is.1,
+      is.2,
+      record {
+        numbered = n.numbered;
+        next_is = n.next_is;
+        by_then = n.by_then;
+        stamped = n.stamped;
+        place = n.place;
+        had_come = had_come_later (g.members m) (h.members m) c n.place later n.had_come;
+        near = n.near;
+      },
+    )
 
 -- ---- a member while other things happen
 

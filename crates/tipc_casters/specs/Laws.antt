@@ -10,10 +10,10 @@ use Rattle.tipc_types.specs.Limits.{most_age, most_packet_bytes}
 use Rattle.tipc_send_window.specs.Sending.{IsSending}
 use Rattle.tipc_broadcast.specs.declared.contacts.Contact.{Contact}
 use Rattle.tipc_broadcast.specs.Contacts.{contact_with, shown_in}
-use Rattle.tipc_broadcast.specs.Casting.{accepting, booted, joining, leaving, shown, stating, with_message}
+use Rattle.tipc_broadcast.specs.Casting.{accepting, booted, joining, leaving, stating, with_message}
 use Rattle.tipc_broadcast.specs.Pieces.{IsCastPiece}
 use Rattle.tipc_casters.specs.Sights.{Aired, boot_in, CasterSight, IsCast, MemberSight, ReadsAs, Told}
-use Rattle.tipc_casters.specs.Turns.{enters, hears_packet, IsCall, is_to_hear, is_told, IsRight, joins, leaves, new_caster, new_member, quits, restarted, sends, states, tells, with_member}
+use Rattle.tipc_casters.specs.Turns.{enters, hears_packet, IsCall, is_to_hear, is_told, IsRight, IsToldToMember, joins, leaves, new_caster, new_member, quits, restarted, sends, states, tells, with_member}
 
 -- a caster that did nothing yet, and members that were in no contact with it
 abbrev pub Begins : Type 0
@@ -64,10 +64,11 @@ Enters = (a : CasterSight) (ms : ℕ → MemberSight) (m peer start c : ℕ) →
 abbrev pub Quits : Type 0
 Quits = (a : CasterSight) (ms : ℕ → MemberSight) (m : ℕ) → IsCast a ms → IsCast a (with_member ms m (quits (ms m)))
 
--- a STATE is taken that the caster told in the present contact
+-- a STATE is taken that the caster told in the present contact, with at most 30,000 numbered since
 abbrev pub HearsState : Type 0
 HearsState = (a : CasterSight) (ms : ℕ → MemberSight) (m : ℕ) (k : Contact) (t : Told) → IsCast a ms → (ms m).heard ≡ Some k → Contains (ms m).hears t
-    → (ms m).at ≡ Some t.contact → IsCast a (with_member ms m (is_told (ms m) k t.seen))
+    → (ms m).at ≡ Some t.contact → t.stamp ≤ a.numbered (boot_in t.contact)
+    → a.numbered (boot_in t.contact) ≤ t.stamp + most_age → IsCast a (with_member ms m (is_told (ms m) k t.seen))
 
 -- A broadcast frame of the caster arrives, any that it ever sent, with at most 30,000 numbered in its boot since.
 abbrev pub Hears : Type 0
@@ -82,10 +83,9 @@ abbrev pub Tells : Type 0
 Tells = (a : CasterSight) (ms : ℕ → MemberSight) (m next start : ℕ) (k : Contact) (t : Told) → IsCast a ms → (ms m).heard ≡ Some k → (ms m).at ≡ Some t.contact
     → t.stamp ≡ a.numbered a.casting.boot → t.seen ≡ shown_in next start k.shown k.window → IsCast a (with_member ms m (tells (ms m) t))
 
--- the caster tells a member a STATE, with the start that its link shows
+-- the caster tells a member a STATE, with the start and the next number that its link shows; what has a number after the event was accepted
 abbrev pub TellsMember : Type 0
-TellsMember = (a : CasterSight) (ms : ℕ → MemberSight) (m : ℕ) (t : Told) → IsCast a ms → a.joined m ≡ Some t.contact → t.seen.start ≡ (shown a.casting m).start
-    → IsCast a (with_member ms m (is_to_hear (ms m) t))
+TellsMember = (a : CasterSight) (ms : ℕ → MemberSight) (m : ℕ) (t : Told) → IsCast a ms → IsToldToMember a m t → IsCast a (with_member ms m (is_to_hear (ms m) t))
 
 -- ---- what follows
 

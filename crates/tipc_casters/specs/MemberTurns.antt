@@ -1,7 +1,8 @@
 -- What an event at a member makes of it, as a world tells of it: at most one thing happens at its broadcast link, and STATEs to the caster leave before
 -- it and after it.
-use Rattle.std.specs.Prelude.{◌≡◌, ◌⊎◌, ℕ, All, List, Option, Some, None}
+use Rattle.std.specs.Prelude.{◌≡◌, ◌⊎◌, ◌+◌, ◌≤◌, ℕ, All, List, Option, Some, None}
 use Rattle.std.specs.List.{Contains}
+use Rattle.tipc_types.specs.Limits.{most_age}
 use Rattle.tipc_header.specs.Spelling.{Fields}
 use Rattle.tipc_fragments.specs.Joining.{fresh}
 use Rattle.tipc_reassembly.specs.declared.opening.Opened.{Opened}
@@ -29,10 +30,12 @@ pub record EntersAnew (v : CasterView) (w w' : MemberView) (m c : ℕ) (k : Cont
   pub given : (own theirs : ℕ) → w'.given own theirs ≡ w.given own theirs
   pub begun : w'.begun ≡ fresh
 
--- a STATE of the caster is taken, where this is kept of it, in this contact
-pub record LearnsOf (w w' : MemberView) (c : Option ℕ) (k : Contact) : Type 0 where
+-- a STATE of the caster is taken, where this is kept of it, in this contact, with at most 30,000 numbered since
+pub record LearnsOf (v : CasterView) (w w' : MemberView) (c : Option ℕ) (k : Contact) : Type 0 where
   pub state : Told
   pub there : Contains w.hears state
+  pub by_now : state.stamp ≤ v.numbered (boot_in state.contact)
+  pub recent : v.numbered (boot_in state.contact) ≤ state.stamp + most_age
   pub contact : c ≡ Some state.contact
   pub kept : Contact
   pub heard_is : w'.heard ≡ Some kept
@@ -62,10 +65,10 @@ pub record TakesCast (v : CasterView) (w w' : MemberView) (m : ℕ) : Type 0 whe
 pub data HappensTo (v : CasterView) (w w' : MemberView) (m : ℕ) : Type 0 where
   rests : Lasts w w' → w'.heard ≡ w.heard → HappensTo v w w' m
   keeps : (k l : Contact) → Lasts w w' → w.heard ≡ Some k → w'.heard ≡ Some l → IsKeptAs k l → HappensTo v w w' m
-  learns : (k : Contact) → Lasts w w' → w.heard ≡ Some k → LearnsOf w w' w.at k → HappensTo v w w' m
+  learns : (k : Contact) → Lasts w w' → w.heard ≡ Some k → LearnsOf v w w' w.at k → HappensTo v w w' m
   takes : TakesCast v w w' m → HappensTo v w w' m
   enters : (c : ℕ) (k : Contact) → EntersAnew v w w' m c k → w'.heard ≡ Some k → HappensTo v w w' m
-  enters_told : (c : ℕ) (k : Contact) → EntersAnew v w w' m c k → LearnsOf w w' w'.at k → HappensTo v w w' m
+  enters_told : (c : ℕ) (k : Contact) → EntersAnew v w w' m c k → LearnsOf v w w' w'.at k → HappensTo v w w' m
   quits : w'.at ≡ None → w'.heard ≡ None → ((own theirs : ℕ) → w'.given own theirs ≡ w.given own theirs) → HappensTo v w w' m
 
 -- STATEs to the caster leave that tell of the contact as it was before, or as it is after; more may be entered, and nothing comes from the caster.

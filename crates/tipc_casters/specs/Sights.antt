@@ -12,7 +12,7 @@ use Rattle.tipc_broadcast.specs.Casting.{Casting, IsCasting}
 use Rattle.tipc_broadcast_law.specs.Groups.{Accepted, accepted_for, Group}
 use Rattle.tipc_broadcast_law.specs.Law.{IsGroup}
 use Rattle.tipc_broadcast_law.specs.Lines.{IsCastFrame, IsLined}
-use Rattle.tipc_broadcast_law.specs.Listening.{IsListening}
+use Rattle.tipc_broadcast_law.specs.Listening.{IsListening, ToldNext}
 use Rattle.tipc_broadcast_law.specs.Steps.{Casts, line_of, ToldPlace}
 use Rattle.tipc_broadcast.specs.Pieces.{IsCastPiece}
 
@@ -81,9 +81,9 @@ IsAired g own f = IsCastFrame g.caster own f.stamp f.frame
 abbrev pub IsToldBy : Group → ℕ → Told → Type 0
 IsToldBy g m t = t.seen.in_step ≡ true → (place : ℕ) × (t.seen.acknowledged ≡ number_of place) × ToldPlace g m t.contact place t.stamp
 
--- a STATE of the caster to a member: it shows the start of the contact in which it was told
+-- a STATE of the caster to a member: it shows the start of the contact in which it was told, and the next number
 abbrev pub IsToldTo : Group → ℕ → Told → Type 0
-IsToldTo g m t = (s : ℕ) × ((g.members m).begun t.contact ≡ Some s) × (t.seen.start ≡ number_of (s + 1))
+IsToldTo g m t = (s : ℕ) × ((g.members m).begun t.contact ≡ Some s) × (t.seen.start ≡ number_of (s + 1)) × ToldNext (g.members m) t.contact t.seen.next t.stamp
 
 -- a member, as it stands in the law
 pub record IsMember (g : Group) (m : ℕ) (s : MemberSight) : Type 0 where

@@ -1,13 +1,14 @@
 -- What may happen to a caster and its members, and the sights after it.
-use Rattle.std.specs.Prelude.{◌≡◌, ◌<◌, ◌^◌, ℕ, Bool, ◌+◌, List, [], ◌∷◌, ◌++◌, map, Some, None, if◌then◌else◌}
+use Rattle.std.specs.Prelude.{◌≡◌, ◌<◌, ◌≤◌, ◌^◌, ℕ, Bool, ◌+◌, List, [], ◌∷◌, ◌++◌, map, Some, None, if◌then◌else◌}
+use Rattle.tipc_types.specs.Position.{number_of}
 use Rattle.tipc_types.specs.declared.link_words.BroadcastState.{BroadcastState}
 use Rattle.tipc_types.specs.declared.packet_lists.Taken.{Taken}
 use Rattle.tipc_outside.specs.declared.outgoing.Outgoing.{Outgoing}
 use Rattle.tipc_send_window.specs.Sending.{IsSending}
 use Rattle.tipc_broadcast.specs.declared.contacts.Contact.{Contact}
 use Rattle.tipc_broadcast.specs.Contacts.{heard, heard_outcome, joined, refusal, told}
-use Rattle.tipc_broadcast.specs.Casting.{accepted, accepting, accepting_frames, booted, Casting, hearing, IsCasting, joining, leaving, leaving_frames, stating, stating_frames, with_bearer}
-use Rattle.tipc_broadcast_law.specs.Groups.{is_contact, put}
+use Rattle.tipc_broadcast.specs.Casting.{accepted, accepting, accepting_frames, booted, Casting, hearing, IsCasting, joining, leaving, leaving_frames, shown, stating, stating_frames, with_bearer}
+use Rattle.tipc_broadcast_law.specs.Groups.{is_contact, put, queue}
 use Rattle.tipc_broadcast_law.specs.Listening.{given}
 use Rattle.tipc_casters.specs.Sights.{Aired, boot_in, CasterSight, MemberSight, Told}
 
@@ -99,6 +100,18 @@ listens_as s k = record s { heard = Some k }
 -- a STATE comes into the air, of a member to the caster or of the caster to it
 abbrev pub tells : MemberSight → Told → MemberSight
 tells s t = record s { told = s.told ++ t ∷ [] }
+
+-- The broadcast fields of a STATE of the caster to a member, in the contact in which they are: the start that its link shows for the member, and the next
+-- number as it was in the event in which the STATE left. After that event no more had a number than had one or waited
+-- before.
+pub record IsToldToMember (a : CasterSight) (m : ℕ) (t : Told) : Type 0 where
+  pub contact : a.joined m ≡ Some t.contact
+  pub start : t.seen.start ≡ (shown a.casting m).start
+  pub numbered : ℕ
+  pub next : t.seen.next ≡ number_of (numbered + 1)
+  pub by_then : numbered ≤ t.stamp
+  pub stamped : t.stamp ≤ numbered + queue
+  pub near : t.stamp ≤ a.casting.sending.numbered + queue
 
 -- the caster tells the member
 abbrev pub is_to_hear : MemberSight → Told → MemberSight

@@ -2,6 +2,7 @@
 use Rattle.std.specs.Prelude.{◌≡◌, ◌⊎◌, ◌<◌, ◌≤◌, ◌+◌, ◌%◌, ◌^◌, ◌==◌, Bool, true, false, ℕ, All, List, [], ◌∷◌, ◌++◌, Option, Some, None, if◌then◌else◌}
 use Rattle.std.specs.List.{Contains, list_all}
 use Rattle.tipc_types.specs.Limits.{most_age}
+use Rattle.tipc_types.specs.Position.{number_of}
 use Rattle.tipc_types.specs.declared.link_words.BroadcastState.{BroadcastState}
 use Rattle.tipc_types.specs.declared.link_words.Why.{Why}
 use Rattle.tipc_types.specs.declared.packet_lists.Taken.{Taken}
@@ -18,7 +19,7 @@ use Rattle.tipc_broadcast.specs.declared.contacts.Contact.{Contact}
 use Rattle.tipc_broadcast.specs.Casting.{accepted, booted, shown}
 use Rattle.tipc_broadcast.specs.Contacts.{carried, heard, heard_outcome, refusal, shown_in, told}
 use Rattle.tipc_broadcast.specs.Deeds.{AreLawful, CastDeed, after_deeds, deeds_frames}
-use Rattle.tipc_broadcast_law.specs.Groups.{put}
+use Rattle.tipc_broadcast_law.specs.Groups.{put, queue}
 use Rattle.tipc_casters.specs.Messages.{ArePiecesOf}
 use Rattle.tipc_casters.specs.Reading.{IsWritten}
 use Rattle.tipc_casters.specs.Sights.{Aired, boot_in, contact_of, Told}
@@ -102,20 +103,23 @@ abbrev pub QuitsStaysCast : Type 0
 QuitsStaysCast = (v : CasterView) (ws : ℕ → MemberView) (m : ℕ) (begun : Joining) → AreCastSeen v ws → IsOther v m
     → AreCastSeen v (with_view ws m (record (ws m) { at = None; heard = None; begun = begun }))
 
--- what is kept of the caster has this boot and this window
+-- what is kept of the caster has this boot and this window, and what it showed
 pub record IsKeptAs (k l : Contact) : Type 0 where
   pub boot : l.boot ≡ k.boot
   pub window : l.window ≡ k.window
+  pub shown : l.shown ≡ k.shown
 
 -- something else is kept of the caster
 abbrev pub KeepsStaysCast : Type 0
 KeepsStaysCast = (v : CasterView) (ws : ℕ → MemberView) (m : ℕ) (k l : Contact) → AreCastSeen v ws → IsOther v m → (ws m).heard ≡ Some k → IsKeptAs k l
     → AreCastSeen v (with_view ws m (record (ws m) { heard = Some l }))
 
--- a STATE of the caster is taken, which it told in the present contact
+-- a STATE of the caster is taken, which it told in the present contact, with at most 30,000 numbered since
 abbrev pub LearnsStaysCast : Type 0
 LearnsStaysCast = (v : CasterView) (ws : ℕ → MemberView) (m : ℕ) (t : Told) (k l : Contact) → AreCastSeen v ws → IsOther v m → (ws m).heard ≡ Some k
-    → Contains (ws m).hears t → (ws m).at ≡ Some t.contact → IsKeptAs (told t.seen.start t.seen.next k) l
+    → Contains (ws m).hears t → (ws m).at ≡ Some t.contact → t.stamp ≤ v.numbered (boot_in t.contact)
+    → v.numbered (boot_in t.contact) ≤ t.stamp + most_age
+    → IsKeptAs (told t.seen.start t.seen.next k) l
     → AreCastSeen v (with_view ws m (record (ws m) { heard = Some l }))
 
 -- A broadcast frame of the caster arrives, any that is in the air, with at most 30,000 numbered in its boot since: the packet p, under an envelope of
@@ -152,10 +156,17 @@ TakesStaysCast = (v : CasterView) (ws : ℕ → MemberView) (m c boot set by : �
 
 -- ---- at the caster
 
--- a STATE of the caster to a member shows the start that its broadcast link has for the member in the present contact
+-- A STATE of the caster to a member shows the start that its broadcast link has for the member in the present contact, and the next number as it was in
+-- the event in which the STATE left. After that event no more had a number than had one or waited
+-- before.
 pub record TellsTo (v : CasterView) (m : ℕ) (t : Told) : Type 0 where
   pub contact : v.joined m ≡ Some t.contact
   pub start : t.seen.start ≡ (shown v.casting m).start
+  pub numbered : ℕ
+  pub next : t.seen.next ≡ number_of (numbered + 1)
+  pub by_then : numbered ≤ t.stamp
+  pub stamped : t.stamp ≤ numbered + queue
+  pub near : t.stamp ≤ v.casting.sending.numbered + queue
 
 -- the caster tells members
 abbrev pub TellsStaysCast : Type 0

@@ -8,10 +8,10 @@ use std::alloc::{AllocError, Global};
 use std::marker::Model;
 use std::mem;
 use tipc_header::{FragmentType, HeaderFault, decode};
-use tipc_types::{Bytes, NoMemory, Sequence};
+use tipc_types::{Bytes, Few, NoMemory};
 
 /// The arrival numbers of the frames that brought the fragments of a message, in order.
-pub type Arrivals = Sequence<u64>;
+pub type Arrivals = Few<u64>;
 
 /// What a fragment that was joined makes of the message.
 #[derive(Debug, Drop, PartialEq)]

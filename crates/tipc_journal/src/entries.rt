@@ -1,15 +1,14 @@
 //! The entries of a journal: what a node records of each step.
 
 use tipc_types::{
-    Addr, Answer, By, Cause, EventNote, Flow, LinkState, Message, Publication, Sequence,
-    Subscription,
+    Addr, Answer, By, Cause, EventNote, Few, Flow, LinkState, Message, Publication, Subscription,
 };
 
 /// Arrival numbers in order.
-pub type Arrivals = Sequence<u64>;
+pub type Arrivals = Few<u64>;
 
 /// Port numbers in order.
-pub type PortList = Sequence<u32>;
+pub type PortList = Few<u32>;
 
 /// One thing that happened at a node. A step of the node is a `Step`, the entries after it, and the
 /// `Answered` that ends it. (This project's profile.)

@@ -29,6 +29,7 @@ pub mod Stable
 pub mod Stops
 pub mod Surely
 pub mod Taking
+pub mod Telling
 pub mod Tellings
 pub mod Wayfaring
 pub mod Withdrawing

@@ -1,8 +1,9 @@
 -- What a node does in one event, in one form for all of them: it records a step, and at the pair to each peer it takes a turn, of which the
 -- step tells. What else changes (sockets, say) is beside it.
-use Rattle.std.specs.Prelude.{◌≡◌, ◌⊎◌, ◌<◌, ◌≤◌, ◌^◌, ◌%◌, ℕ, ◌==◌, ◌&&◌, Bool, true, false, List, [], ◌∷◌, ◌++◌, Option, Some, None, IfSome, filter, is_some, map, option_map, option_to_list}
+use Rattle.std.specs.Prelude.{◌≡◌, ◌⊎◌, ◌<◌, ◌≤◌, ◌+◌, ◌^◌, ◌%◌, ℕ, ◌==◌, ◌&&◌, Bool, true, false, List, [], ◌∷◌, ◌++◌, Option, Some, None, IfSome, filter, is_some, map, option_map, option_to_list}
 use Rattle.std.specs.List.{All, flat_map, list_all}
 use Rattle.tipc_types.specs.Address.{IsNodeWord, node_word}
+use Rattle.tipc_types.specs.Position.{number_of}
 use Rattle.tipc_types.specs.declared.identity.Addr.{Addr}
 use Rattle.tipc_types.specs.declared.identity.To.{To}
 use Rattle.tipc_types.specs.declared.identity.To.TheVariants as to
@@ -244,11 +245,13 @@ IsMaking other = ⊥
 
 -- ---- the turn at the broadcast link
 
--- A STATE to node b shows what the broadcast link has for it. On a tick the next number may have moved: peers before it left.
-abbrev pub Shows : Casting → ℕ → Opening → Type 0
-Shows v b (ticks seen) = (next : ℕ) × (seen ≡ record (shown v (node_word b)) { next = next })
-Shows v b (hears bearer es er p by seen) = seen ≡ shown v (node_word b)
-Shows v b other = Unit {0}
+-- A STATE to node b shows what the broadcast link has for it. On a tick the next number may have moved, since peers before it left: it is that behind as
+-- many as had a number then, no fewer than before the turn and no more than after it.
+abbrev pub Shows : Casting → Casting → ℕ → Opening → Type 0
+Shows v w b (ticks seen) =
+    (numbered : ℕ) × (v.sending.numbered ≤ numbered) × (numbered ≤ w.sending.numbered) × (seen ≡ record (shown v (node_word b)) { next = number_of (numbered + 1) })
+Shows v w b (hears bearer es er p by seen) = seen ≡ shown v (node_word b)
+Shows v w b other = Unit {0}
 
 -- no message was cast, or one, and nothing else was done then
 abbrev pub IsSent : ℕ → List CastDeed → Option Message → Type 0
@@ -295,7 +298,7 @@ pub data HearsCasts (n n' : NodeState) (bytes : List ℕ) (s : NodeStep) (deeds 
 pub record CastTurn (n n' : NodeState) (bytes : List ℕ) (s : NodeStep) (deeds : List CastDeed) (cast : Option Message) (b : ℕ)
     (opening : Opening) (first : Outset) (reply : Option Reply) : Type 0 where
   pub told : filter (is_deed_with (node_word b)) deeds ≡ arrival_deeds b first.course.changes (stated_by opening first.given)
-  pub shows : Shows n.casting b opening
+  pub shows : Shows n.casting n'.casting b opening
   pub shows_last : IfSome reply (λ (r : Reply). r.shown ≡ shown n'.casting (node_word b))
   pub accepted : filter (is_cast_for b) s.inside ≡ cast_told b (pair_with n b) cast
   pub heard : HearsCasts n n' bytes s deeds b first.course.changes

@@ -20,9 +20,9 @@ ghost use Rattle.tipc_node.specs.Sure.{all_wait};
 
 use crate::casting::{changes_contact, take_state};
 use crate::cores::Core;
-use crate::frames::{Due, Hearing, fits, look, message_count, prepare};
+use crate::frames::{Due, Hearing, look, message_count, prepare};
 use crate::steps::{NodeFault, begin, has_journal_room, record};
-use crate::sure::{all_wait, conclude_waiting, prepare_waiting};
+use crate::sure::{all_wait, conclude_waiting, told_size};
 use std::alloc::Global;
 use tipc_broadcast::Broadcast;
 use tipc_header::FrameKind;
@@ -217,11 +217,10 @@ impl Core {
         ensures heard { IfOk result (λ a. HearsDue self.old self.new by heard.number due.now out.old out.new a) }
         ensures err { OnErr result ((self.new ≡ self.old) × (out.new ≡ out.old)) }
     {
-        let told = prepare_waiting(alloc, heard.deliveries)?;
-        if !fits(told.entries.as_slice()) {
+        let Some(size) = told_size(heard.deliveries.as_slice()) else {
             return Err(NoMemory);
-        }
-        self.journal.reserve(told.entries.len() as u64 + 2)?;
+        };
+        self.journal.reserve(size + 2)?;
         let Some(neighbour) = &mut self.draft.neighbours[due.peer as usize] else {
             unreachable!()
         };
@@ -235,11 +234,12 @@ impl Core {
         };
         let kept = Answer::Arrived(heard.answer);
         conclude_waiting(
+            alloc,
             &mut self.draft.sockets,
             &mut self.journal,
             by,
             note,
-            told,
+            heard.deliveries,
             kept,
         );
         Ok(heard.answer)

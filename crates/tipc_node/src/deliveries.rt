@@ -1,7 +1,7 @@
 //! What an arrival delivers, one after the other, in a draft of its step: messages have their fates, returns go back,
 //! and the items of a peer are applied.
 
-ghost use Rattle.std.specs.Prelude.{◌≡◌, ℕ, ◌+◌, ◌<◌, ◌≤◌, List, false, true, None, Some, length, slice_index_or, sum_by, IfOk, OnErr, OnOk};
+ghost use Rattle.std.specs.Prelude.{◌≡◌, ℕ, ◌+◌, ◌<◌, ◌≤◌, List, [], ◌∷◌, false, true, None, Some, length, slice_index_or, sum_by, IfOk, OnErr, OnOk};
 ghost use Rattle.std.specs.List.{list_all};
 ghost use Rattle.tipc_outside.specs.declared.outgoing.Outgoing.{Outgoing};
 ghost use Rattle.tipc_outside.specs.Frames.{Adds};
@@ -16,7 +16,7 @@ ghost use Rattle.tipc_node.specs.Nodes.{entries_in, is_met};
 ghost use Rattle.tipc_node.specs.Works.{addr_of_word, back_of, fate_of, fated, waiting_to, work_of, Puts};
 
 use crate::drafts::{Draft, keep};
-use crate::fates::{comes_home, destination, meet, put_on};
+use crate::fates::{accept, comes_home, destination, meet, put_on};
 use crate::frames::Delivery;
 use crate::items::apply_items;
 use std::alloc::Global;
@@ -26,26 +26,23 @@ use tipc_outside::Outbox;
 use tipc_types::{Addr, Message, NoMemory};
 
 impl Draft {
-    /// Puts a message on the link to the peer of that number, in a step that does nothing else: what is told of it, and
-    /// the frames that leave, aren't drafted.
+    /// Puts a message on the link to the peer of that number, in a step that does nothing else: the frames that leave aren't
+    /// drafted. The answer is the entry that tells that it is accepted.
     pub(crate) fn put_alone(
         &mut self,
         alloc: Global,
         peer: u8,
         m: Message,
-        inside: &mut Vec<Entry>,
         out: &mut Outbox,
-    ) -> Result<(), NoMemory>
+    ) -> Result<Entry, NoMemory>
         requires peer { (1 ≤ peer) × (peer ≤ 32) }
         requires payload { IsPayload m }
         requires contact { is_met (slice_index_or self.old.work.neighbours peer None) ≡ true }
-        ensures puts { OnOk result ((frames : List Outgoing) × Puts (own_of self.old)
-            (work_of self.old.work.neighbours self.old.work.sockets inside.old.items) peer m
-            (work_of self.new.work.neighbours self.old.work.sockets inside.new.items) frames ×
+        ensures puts { IfOk result (λ entry. (frames : List Outgoing) × Puts (own_of self.old)
+            (work_of self.old.work.neighbours self.old.work.sockets []) peer m
+            (work_of self.new.work.neighbours self.old.work.sockets (entry ∷ [])) frames ×
             Adds out.old out.new frames) }
-        ensures few { OnOk result (length inside.new.items ≡ length inside.old.items + 1) }
-        ensures light { OnOk result (sum_by entry_bytes inside.new.items ≡
-            sum_by entry_bytes inside.old.items + counted_bytes m) }
+        ensures light { IfOk result (λ entry. entry_bytes entry ≡ counted_bytes m) }
         ensures rest { self.new ≡ record self.old {
           work = record self.old.work {
             neighbours = self.new.work.neighbours;
@@ -56,7 +53,7 @@ impl Draft {
         let Some(neighbour) = &mut self.neighbours[peer as usize] else {
             unreachable!()
         };
-        put_on(neighbour, alloc, self.own, peer, m, inside, out)
+        accept(neighbour, alloc, self.own, peer, m, out)
     }
 
     /// Puts a return on the link to the peer that it is for.

@@ -124,6 +124,29 @@ pub fn meet(
     Ok(back)
 }
 
+/// Puts a message on the active link to the neighbour of that number, in the packets that it takes. The answer is the entry
+/// that tells that it is accepted.
+pub fn accept(
+    neighbour: &mut Neighbour,
+    alloc: Global,
+    own: Addr,
+    peer: u8,
+    m: Message,
+    out: &mut Outbox,
+) -> Result<Entry, NoMemory>
+    requires peer { (1 ≤ peer) × (peer ≤ 32) }
+    requires carried { IsCarried m }
+    requires contact { in_contact neighbour.old.pair ≡ true }
+    ensures put { IfOk result (λ entry. PutsOn own.word neighbour.old neighbour.new peer m [] (entry ∷ [])
+        out.old out.new) }
+    ensures err { OnErr result ((neighbour.new ≡ neighbour.old) × (out.new ≡ out.old)) }
+{
+    let pieces = pieces(alloc, own, &m)?;
+    let entry = neighbour.accepted(peer, m);
+    neighbour.send(alloc, pieces, out)?;
+    Ok(entry)
+}
+
 /// Puts a message on the active link to the neighbour of that number, in the packets that it takes, and tells that it is
 /// accepted.
 pub fn put_on(
@@ -143,10 +166,8 @@ pub fn put_on(
     ensures err { OnErr result ((neighbour.new ≡ neighbour.old) × (inside.new.items ≡ inside.old.items) ×
         (out.new ≡ out.old)) }
 {
-    let pieces = pieces(alloc, own, &m)?;
     inside.reserve(1)?;
-    let entry = neighbour.accepted(peer, m);
-    neighbour.send(alloc, pieces, out)?;
+    let entry = accept(neighbour, alloc, own, peer, m, out)?;
     inside.push_reserved(entry);
     Ok(())
 }

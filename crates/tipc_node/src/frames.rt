@@ -27,7 +27,7 @@ use tipc_reassembly::Opened;
 use tipc_types::{Addr, Arrival, BroadcastState, Flow, Message, NoMemory, Why};
 
 /// The most entries of what an arrival delivers, of the free entries that a call needs.
-const MOST_TOLD: usize = FREE_ENTRIES as usize - 4;
+pub const MOST_TOLD: usize = FREE_ENTRIES as usize - 4;
 
 /// A packet of another node that nothing stops, and the two numbers of its envelope: a link packet is due at the link of
 /// a bearer to its sender.

@@ -23,7 +23,7 @@ use crate::drafts::Draft;
 use crate::fates::{comes_home, destination, load_to, meet};
 use crate::messages::{MOST_BODY_BYTES, direct, limit, name_note, named, port_note};
 use crate::neighbours::Neighbour;
-use crate::steps::record;
+use crate::steps::{record, record_entry};
 use std::alloc::Global;
 use tipc_journal::Entry;
 use tipc_outside::Outbox;
@@ -157,9 +157,8 @@ impl Core {
         ensures err { OnErr result ((self.new ≡ self.old) × (out.new ≡ out.old)) }
     {
         self.journal.reserve(3)?;
-        let mut inside = Vec::new(alloc);
-        self.draft.put_alone(alloc, peer, m, &mut inside, out)?;
-        record(&mut self.journal, by, note, inside, sent);
+        let accepted = self.draft.put_alone(alloc, peer, m, out)?;
+        record_entry(&mut self.journal, by, note, accepted, sent);
         Ok(())
     }
 

@@ -105,6 +105,24 @@ pub fn record(journal: &mut Journal, by: By, event: EventNote, inside: Vec<Entry
     journal.release();
 }
 
+/// Records a step in which this alone happened. One of the promised calls is used up.
+pub fn record_entry(journal: &mut Journal, by: By, event: EventNote, inside: Entry, answer: Answer)
+    requires room { has_journal_room journal.old.entries ≡ true }
+    requires spare { 3 ≤ journal.old.spare }
+    requires bytes { entry_bytes inside ≤ free_message_bytes }
+    ensures journal { journal.new.entries ≡ journal.old.entries ++ step_entries (step_of by event (inside ∷ []) answer) }
+    ensures kept { journal.new.kept ≡ journal.old.kept - 1 }
+{
+    journal.commit(Entry::Step { by, event });
+    journal.commit(inside);
+    journal.commit(Entry::Answered {
+        caller: by.caller,
+        call: by.call,
+        answer,
+    });
+    journal.release();
+}
+
 /// Makes a journal ready for a step with one entry inside at most, which needs no memory where one of the promised calls is
 /// left.
 pub fn make_ready(journal: &mut Journal) -> Result<(), NoMemory>

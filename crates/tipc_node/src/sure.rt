@@ -1,21 +1,22 @@
 //! What an arrival delivers, where each message surely waits at its port: nothing goes back by it, and what can fail
 //! is done before the node is changed.
 
-ghost use Rattle.std.specs.Prelude.{◌≡◌, ◌+◌, ◌-◌, ◌≤◌, ◌++◌, ◌∷◌, [], true, length, sum_by, IfOk, OnOk};
+ghost use Rattle.std.specs.Prelude.{◌≡◌, ◌+◌, ◌-◌, ◌≤◌, ◌++◌, ◌∷◌, [], true, Some, length, sum_by, IfSome};
+ghost use Rattle.tipc_types.specs.declared.message_forms.Message.{Message};
 ghost use Rattle.tipc_journal.specs.declared.entries.Entry.{Entry};
-ghost use Rattle.tipc_journal.specs.Room.{entry_bytes, free_entries, free_message_bytes, has_journal_room};
+ghost use Rattle.tipc_journal.specs.Room.{HasRoom, entry_bytes, free_entries, free_message_bytes, has_journal_room};
 ghost use Rattle.tipc_journal.specs.Steps.{step_entries};
 ghost use Rattle.tipc_sockets.specs.Fates.{port_of};
 ghost use Rattle.tipc_node.specs.Nodes.{step_of};
 ghost use Rattle.tipc_node.specs.Sure.{all_wait, are_sure, message_of, messages_in, told_in, told_of_delivery, waits_surely, with_all_waiting};
 
-use crate::frames::Delivery;
-use crate::steps::record;
+use crate::frames::{Delivery, MOST_TOLD};
+use crate::steps::FREE_MESSAGE_BYTES;
 use std::alloc::Global;
 use std::collections::VecDeque;
-use tipc_journal::{Entry, Journal, PortList};
+use tipc_journal::{Entry, Journal, PortList, entry_bytes};
 use tipc_sockets::{Sockets, port_of};
-use tipc_types::{Answer, By, EventNote, Message, NoMemory};
+use tipc_types::{Answer, By, EventNote, Message};
 
 /// Whether the message of a delivery surely waits at its port, as the last of so many that arrived.
 fn waits_surely(sockets: &Sockets, count: u32, message: &Option<Message>) -> bool
@@ -39,84 +40,98 @@ pub fn all_wait(sockets: &Sockets, count: u32, deliveries: &[Delivery]) -> bool
     true
 }
 
-/// What is told of an arrival whose messages surely wait, and the messages.
-#[derive(Drop)]
-pub struct Waiting {
-    /// What is told.
-    pub entries: Vec<Entry>,
-    /// The messages.
-    pub messages: Vec<Message>,
-}
-
 /// The entry of a message that waits at its port.
-fn queued_entry(alloc: Global, m: &Message) -> Result<Entry, NoMemory>
-    ensures { IfOk result (λ e. e ≡ Entry.Queued (port_of m.now ∷ [])) }
+fn queued_entry(alloc: Global, m: &Message) -> Entry
+    ensures { result ≡ Entry.Queued (port_of m.now ∷ []) }
 {
-    let mut ports = PortList::new(alloc);
-    ports.push(port_of(m))?;
-    Ok(Entry::Queued { ports })
+    Entry::Queued {
+        ports: PortList::one(alloc, port_of(m)),
+    }
 }
 
-/// Tells one delivery more.
-fn tell(alloc: Global, told: &mut Waiting, delivery: Delivery) -> Result<(), NoMemory>
-    ensures entries { OnOk result (told.new.entries.items ≡ told.old.entries.items ++ told_of_delivery delivery) }
-    ensures messages { OnOk result (told.new.messages.items ≡
-        told.old.messages.items ++ message_of delivery.message) }
+/// How many entries tell of a delivery whose message waits at its port.
+fn told_count(delivery: &Delivery) -> usize
+    ensures count { result ≡ length (told_of_delivery delivery.now) }
+    ensures few { result ≤ 2 }
 {
-    told.entries.push(delivery.entry)?;
-    let Some(m) = delivery.message else {
-        return Ok(());
-    };
-    told.entries.push(queued_entry(alloc, &m)?)?;
-    told.messages.push(m)?;
-    Ok(())
+    match &delivery.message {
+        Some(_) => 2,
+        None => 1,
+    }
 }
 
-/// What is told of deliveries whose messages surely wait, and the messages. Nothing is changed yet.
-pub fn prepare_waiting(alloc: Global, deliveries: Vec<Delivery>) -> Result<Waiting, NoMemory>
-    ensures entries { IfOk result (λ w. w.entries.items ≡ told_in deliveries.items) }
-    ensures messages { IfOk result (λ w. w.messages.items ≡ messages_in deliveries.items) }
+/// How many entries tell of deliveries whose messages wait at their ports: None where they are more than fit into a step, or
+/// have more message bytes.
+pub fn told_size(deliveries: &[Delivery]) -> Option<u64>
+    ensures size { IfSome result (λ size. size ≡ length (told_in deliveries.now)) }
+    ensures few { IfSome result (λ size. size ≤ free_entries - 4) }
+    ensures light { IfSome result (λ _. sum_by entry_bytes (told_in deliveries.now) ≤ free_message_bytes) }
 {
-    let mut told = Waiting {
-        entries: Vec::new(alloc),
-        messages: Vec::new(alloc),
-    };
+    let mut left = FREE_MESSAGE_BYTES;
+    let mut size = 0;
     for delivery in deliveries {
-        tell(alloc, &mut told, delivery)?;
+        let bytes = entry_bytes(&delivery.entry);
+        if bytes > left {
+            return None;
+        }
+        left -= bytes;
+        size += told_count(delivery);
+        if size > MOST_TOLD {
+            return None;
+        }
     }
-    Ok(told)
+    Some(size as u64)
 }
 
-/// Puts messages that surely wait at their ports there. It takes no memory.
-fn put_all(sockets: &mut Sockets, messages: Vec<Message>)
-    requires sure { are_sure sockets.old messages.items ≡ true }
-    ensures { sockets.new ≡ with_all_waiting sockets.old messages.items }
+/// Tells of a delivery in the step that is being recorded, and puts its message, which surely waits at its port, there.
+fn tell(alloc: Global, sockets: &mut Sockets, journal: &mut Journal, delivery: Delivery)
+    requires room { HasRoom journal.old.entries delivery.entry }
+    requires behind { (m : Message) → delivery.message ≡ Some m →
+        HasRoom (journal.old.entries ++ delivery.entry ∷ []) (Entry.Queued (port_of m ∷ [])) }
+    requires spare { length (told_of_delivery delivery) ≤ journal.old.spare }
+    requires sure { are_sure sockets.old (message_of delivery.message) ≡ true }
+    ensures journal { journal.new.entries ≡ journal.old.entries ++ told_of_delivery delivery }
+    ensures spare { journal.new.spare + length (told_of_delivery delivery) ≡ journal.old.spare }
+    ensures kept { journal.new.kept ≡ journal.old.kept }
+    ensures sockets { sockets.new ≡ with_all_waiting sockets.old (message_of delivery.message) }
 {
-    let mut waiting = VecDeque::from_vec(messages);
-    while let Some(m) = waiting.pop_front() {
-        sockets.put(m);
-    }
+    journal.commit(delivery.entry);
+    let Some(m) = delivery.message else {
+        return;
+    };
+    journal.commit(queued_entry(alloc, &m));
+    sockets.put(m);
 }
 
 /// Puts the messages of an arrival, which surely wait at their ports, there, and records its step.
 pub fn conclude_waiting(
+    alloc: Global,
     sockets: &mut Sockets,
     journal: &mut Journal,
     by: By,
     note: EventNote,
-    told: Waiting,
+    deliveries: Vec<Delivery>,
     answer: Answer,
 )
-    requires sure { are_sure sockets.old told.messages.items ≡ true }
+    requires sure { are_sure sockets.old (messages_in deliveries.items) ≡ true }
     requires room { has_journal_room journal.old.entries ≡ true }
-    requires few { length told.entries.items ≤ free_entries - 2 }
-    requires spare { length told.entries.items + 2 ≤ journal.old.spare }
-    requires bytes { sum_by entry_bytes told.entries.items ≤ free_message_bytes }
-    ensures sockets { sockets.new ≡ with_all_waiting sockets.old told.messages.items }
+    requires few { length (told_in deliveries.items) ≤ free_entries - 2 }
+    requires spare { length (told_in deliveries.items) + 2 ≤ journal.old.spare }
+    requires bytes { sum_by entry_bytes (told_in deliveries.items) ≤ free_message_bytes }
+    ensures sockets { sockets.new ≡ with_all_waiting sockets.old (messages_in deliveries.items) }
     ensures journal { journal.new.entries ≡ journal.old.entries ++ step_entries
-        (step_of by note told.entries.items answer) }
+        (step_of by note (told_in deliveries.items) answer) }
     ensures kept { journal.new.kept ≡ journal.old.kept - 1 }
 {
-    put_all(sockets, told.messages);
-    record(journal, by, note, told.entries, answer);
+    journal.commit(Entry::Step { by, event: note });
+    let mut waiting = VecDeque::from_vec(deliveries);
+    while let Some(delivery) = waiting.pop_front() {
+        tell(alloc, sockets, journal, delivery);
+    }
+    journal.commit(Entry::Answered {
+        caller: by.caller,
+        call: by.call,
+        answer,
+    });
+    journal.release();
 }

@@ -152,17 +152,6 @@ goes_on_next index n n' p p' moved stands =
     cleared_at n' index moved.after (ap (λ ps. slice_get ps index) moved.places ∙ get_set n.places index moved.place moved.after moved.at)
     (inr (offered_back moved.place moved.after moved.message moved.offers stands))
 
--- ---- all messages of a place
-
--- the place is cleared where nothing waits and nothing stands by
-pub cleared_open : {P : Type 0} (index port : ℕ) (n : LockedState P) → IsOpenAt index port n → length (waiting_at n.node.sockets port) ≡ 0 → IsClearedAt n index
-cleared_open index port n (place, at, here, free) none =
-    cleared_at n index place at (inl (subst (λ (q : ℕ). waiting_at n.node.sockets q ≡ []) (sym here) (nothing (waiting_at n.node.sockets port) none), free))
-  where
-    nothing : (xs : List Message) → length xs ≡ 0 → xs ≡ []
-    nothing [] is = refl
-    nothing (x ∷ xs) is = absurd (omega (arith, is))
-
 -- ---- a call of caller 0 behind which a message is offered
 
 -- the place of that number, as it was read

@@ -48,7 +48,7 @@ fn fragments(alloc: Global, message: &[u8]) -> Result<Pieces, Fail> {
 fn all_taken(alloc: Global, packets: Pieces) -> Result<Vec<Taken>, NoMemory> {
     let mut by = 0_u64;
     let mut taken = Vec::new(alloc);
-    for packet in packets.into_vec() {
+    for packet in packets.into_vec()? {
         by = by.saturating_add(1);
         taken.push(Taken {
             number: 0,

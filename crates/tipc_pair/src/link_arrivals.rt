@@ -458,9 +458,9 @@ fn without_first(taken: TakenList) -> TakenList
     requires { 0 < length taken }
     ensures { result ≡ drop 1 taken }
 {
-    let mut taken = taken.into_vec();
-    taken.remove(0);
-    TakenList::from_vec(taken)
+    let mut behind = taken;
+    behind.remove_first();
+    behind
 }
 
 /// Adds those of the packets that have bytes behind others, in order.
@@ -468,7 +468,8 @@ fn without_first(taken: TakenList) -> TakenList
 fn add_with_bytes(packets: &mut TakenList, more: TakenList) -> Result<(), NoMemory>
     ensures { OnOk result (packets.new ≡ packets.old ++ with_bytes more) }
 {
-    for packet in more.into_vec() {
+    let more = more.into_vec()?;
+    for packet in more {
         if !packet.packet.is_empty() {
             packets.push(packet)?;
         }

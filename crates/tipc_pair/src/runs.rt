@@ -146,7 +146,8 @@ fn wrapped(
 pub(crate) fn add_plain(pieces: &mut Pieces, more: Pieces) -> Result<(), NoMemory>
     ensures { OnOk result (pieces.new ≡ pieces.old ++ filter (λ packet. not (is_tunnel packet)) more) }
 {
-    for packet in more.into_vec() {
+    let more = more.into_vec()?;
+    for packet in more {
         if !is_tunnel(packet.as_slice()) {
             pieces.push(packet)?;
         }
@@ -158,7 +159,8 @@ pub(crate) fn add_plain(pieces: &mut Pieces, more: Pieces) -> Result<(), NoMemor
 pub(crate) fn add_all(pieces: &mut Pieces, more: Pieces) -> Result<(), NoMemory>
     ensures { OnOk result (pieces.new ≡ pieces.old ++ more) }
 {
-    for packet in more.into_vec() {
+    let more = more.into_vec()?;
+    for packet in more {
         pieces.push(packet)?;
     }
     Ok(())

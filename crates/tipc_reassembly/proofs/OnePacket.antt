@@ -115,6 +115,10 @@ pub answer_brings : {E : Type 0} (s new : Joining) (bytes : List ℕ) (by : ℕ)
 answer_brings s new bytes by (Ok opened) expected is same = subst (λ (x : List Opened). Brings s bytes by x new) (sym same) is
 answer_brings s new bytes by (Err fault) expected is same = tt
 
+-- what equals it
+pub so_brings : (s new : Joining) (bytes : List ℕ) (by : ℕ) (opened expected : List Opened) → Brings s bytes by expected new → opened ≡ expected → Brings s bytes by opened new
+so_brings s new bytes by opened expected is same = subst (λ (x : List Opened). Brings s bytes by x new) (sym same) is
+
 -- whatever is begun
 pub always_brings : {E : Type 0} (bytes : List ℕ) (by : ℕ) (answer : Result (List Opened) E) (expected : List Opened)
     → ((s : Joining) → Brings s bytes by expected s) → IfOk answer (λ opened. opened ≡ expected) → IfOk answer (λ opened. (s : Joining) → Brings s bytes by opened s)

@@ -14,7 +14,7 @@ use std::marker::Model;
 use tipc_bundle::{SplitFault, split};
 use tipc_fragments::{Arrivals, JoinFault, Joined, Joiner};
 use tipc_header::{Fragment, Header, decode};
-use tipc_types::{Bytes, Inner, NoMemory, Sequence, Taken};
+use tipc_types::{Bytes, Few, Inner, NoMemory, Taken};
 
 /// What comes of packets that were taken.
 #[derive(Clone, Debug, Drop, PartialEq)]
@@ -24,7 +24,7 @@ pub enum Opened {
         /// Its bytes.
         packet: Bytes,
         /// The arrival numbers of the frames that brought it, in order.
-        by: Sequence<u64>,
+        by: Arrivals,
     },
     /// A packet that is passed over.
     Passed {
@@ -34,7 +34,7 @@ pub enum Opened {
 }
 
 /// What came of packets that were taken, in order.
-pub type OpenedList = Sequence<Opened>;
+pub type OpenedList = Few<Opened>;
 
 /// Whether a packet with this header is payload.
 fn is_payload(header: &Header) -> bool
@@ -44,27 +44,28 @@ fn is_payload(header: &Header) -> bool
 }
 
 /// A list of one.
-fn only(alloc: Global, opened: Opened) -> Result<OpenedList, NoMemory>
-    ensures { IfOk result (λ list. list ≡ opened ∷ []) }
+fn only(alloc: Global, opened: Opened) -> OpenedList
+    ensures { result ≡ opened ∷ [] }
 {
-    let mut list = OpenedList::new(alloc);
-    list.push(opened)?;
-    Ok(list)
+    OpenedList::one(alloc, opened)
 }
 
 /// A whole packet that came by one arrival.
-fn whole(alloc: Global, packet: Bytes, by: u64) -> Result<Opened, NoMemory>
-    ensures { IfOk result (λ opened. opened ≡ brought_by by packet) }
+fn whole(alloc: Global, packet: Bytes, by: u64) -> Opened
+    ensures { result ≡ brought_by by packet }
 {
-    let by = Arrivals::from_slice(alloc, &[by])?;
-    Ok(Opened::Whole { packet, by })
+    Opened::Whole {
+        packet,
+        by: Arrivals::one(alloc, by),
+    }
 }
 
 /// A packet that is opened as it is.
 fn message(alloc: Global, packet: &[u8], by: u64) -> Result<OpenedList, NoMemory>
     ensures { IfOk result (λ opened. opened ≡ brought_by by packet.now ∷ []) }
 {
-    only(alloc, whole(alloc, Bytes::from_slice(alloc, packet)?, by)?)
+    let packet = Bytes::from_slice(alloc, packet)?;
+    Ok(only(alloc, whole(alloc, packet, by)))
 }
 
 /// Packets that are opened as they are.
@@ -73,7 +74,7 @@ fn messages(alloc: Global, packets: Inner, by: u64) -> Result<OpenedList, NoMemo
 {
     let mut opened = OpenedList::new(alloc);
     for packet in packets.into_vec() {
-        opened.push(whole(alloc, packet, by)?)?;
+        opened.push(whole(alloc, packet, by))?;
     }
     Ok(opened)
 }
@@ -85,7 +86,7 @@ fn bundle(alloc: Global, bundle: &[u8], by: u64) -> Result<OpenedList, NoMemory>
 {
     match split(alloc, bundle) {
         Ok(packets) => messages(alloc, packets, by),
-        Err(SplitFault::BadInner { place }) => only(alloc, Opened::Passed { place }),
+        Err(SplitFault::BadInner { place }) => Ok(only(alloc, Opened::Passed { place })),
         Err(SplitFault::NoMemory) => Err(NoMemory),
     }
 }
@@ -185,13 +186,13 @@ impl Reassembly {
     {
         let bytes = taken.packet.as_slice();
         let Ok(packet) = decode(bytes) else {
-            return only(alloc, Opened::Passed { place: 0 });
+            return Ok(only(alloc, Opened::Passed { place: 0 }));
         };
         match packet.header {
             Header::Payload(_) | Header::NameDistributor(_) => message(alloc, bytes, taken.by),
             Header::Bundler(_) => bundle(alloc, bytes, taken.by),
             Header::Fragmenter(fragment) => self.join(alloc, fragment, packet.rest, taken.by),
-            _ => only(alloc, Opened::Passed { place: 0 }),
+            _ => Ok(only(alloc, Opened::Passed { place: 0 })),
         }
     }
 
@@ -201,7 +202,7 @@ impl Reassembly {
     {
         let mut opened = Vec::new(alloc);
         for packet in taken {
-            let mut more = self.open_one(alloc, packet)?.into_vec();
+            let mut more = self.open_one(alloc, packet)?.into_vec()?;
             opened.append(&mut more)?;
         }
         Ok(OpenedList::from_vec(opened))

@@ -174,3 +174,15 @@ held_near r packet held a free is some =
 -- so the packets that are due with the wanted one are few
 pub due_few : (r : Receiving) (d : ℕ) (packet : Taken) → next_of r ≡ None → InOrder ≡ place_at r d → IsReceiving r → length (packet ∷ run_of (drop 1 r.held)) ≤ 50
 due_few r d packet free place h = omega (arith, ap length (due_in_order r d packet free (sym place)), due_most r d packet h)
+
+-- where no packet is to be held, those that can be taken leave the window
+pub none_commits : (r : Receiving) (packet : Taken) (a : Coming) (after : Receiving) → next_of r ≡ None → a ≡ coming r packet → a.held ≡ None
+    → after ≡ record { wanted = r.wanted + a.count; held = drop a.count r.held } → after ≡ drained (with_packet r packet)
+none_commits r packet a after free is none made =
+    let told : deferred_at (place_at r (past_wanted r packet.number)) packet ≡ None = sym (ap (λ (x : Coming). x.held) is) ∙ none in
+    made ∙ (ap (λ (x : Coming). let s : Receiving = record { wanted = r.wanted + x.count; held = drop x.count r.held } in s) is ∙ passes r (past_wanted r packet.number) packet free told)
+
+-- a packet that stands first in a list
+pub some_stands : (held : List (Option Taken)) (packet : Taken) → slice_index_or held 0 None ≡ Some packet → 0 < length held
+some_stands [] packet is = absurd (let none : ⊥ = cc in none)
+some_stands (first ∷ held) packet is = omega arith

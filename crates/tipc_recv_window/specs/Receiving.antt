@@ -1,5 +1,5 @@
 -- The receive window: packets that came before their turn, at their places behind the next number.
-use Rattle.std.specs.Prelude.{◌≡◌, ℕ, ◌+◌, ◌-◌, ◌≤◌, ◌^◌, ◌&&◌, ◌==◌, Bool, true, not, List, [], ◌∷◌, ◌++◌, length, drop, replicate, slice_index_or, slice_set, Option, Some, None, is_some, count_by, position, unwrap_or, nat_le, nat_lt, if◌then◌else◌}
+use Rattle.std.specs.Prelude.{◌≡◌, ℕ, ◌+◌, ◌-◌, ◌<◌, ◌≤◌, ◌^◌, ◌&&◌, ◌==◌, Bool, not, List, [], ◌∷◌, ◌++◌, length, drop, replicate, slice_index_or, slice_set, Option, Some, None, is_some, count_by, position, unwrap_or, nat_le, nat_lt, if◌then◌else◌}
 use Rattle.tipc_types.specs.Position.{distance_of, number_of}
 use Rattle.tipc_types.specs.declared.packet_lists.Taken.{Taken}
 use Rattle.tipc_types.specs.declared.link_words.Why.TheVariants as why
@@ -136,10 +136,10 @@ coming r packet = record {
   count = length (run_of (with_packet r packet).held);
 }
 
--- positions behind the wanted one have 62 bits, at most a window's packets are taken, and there is room for a window where a packet is
--- to be held
-pub record HasRoom (wanted : ℕ) (held : Option Taken) (count : ℕ) (room : List (Option Taken)) (capacity : ℕ) : Type 0 where
+-- positions behind the wanted one have 62 bits, at most a window's packets are taken, and the packet that is to be held stands alone
+-- in room for a window
+pub record HasRoom (wanted : ℕ) (held : List (Option Taken)) (count capacity : ℕ) : Type 0 where
   pub counted : wanted + window_size ≤ 2 ^ 62
   pub few : count ≤ window_size
-  pub empty : room ≡ []
-  pub wide : is_some held ≡ true → window_size ≤ capacity
+  pub alone : length held ≤ 1
+  pub wide : 0 < length held → window_size ≤ capacity

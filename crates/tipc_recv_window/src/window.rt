@@ -1,6 +1,6 @@
 //! The receive window: the next number, and the packets that came before their turn.
 
-ghost use Rattle.std.specs.Prelude.{◌≡◌, ◌+◌, ◌-◌, ◌<◌, ◌≤◌, ◌^◌, ◌++◌, ◌∷◌, ◌⊎◌, ◌↔◌, [], drop, false, true, is_some, length, replicate, position, IfOk, IfSome, IsTrue, None, OnErr, Some};
+ghost use Rattle.std.specs.Prelude.{◌≡◌, ◌+◌, ◌-◌, ◌<◌, ◌≤◌, ◌^◌, ◌++◌, ◌∷◌, ◌⊎◌, ◌↔◌, [], drop, false, true, is_some, length, replicate, position, slice_index_or, IfOk, IfSome, IsTrue, None, OnErr, Some};
 ghost use Rattle.std.specs.VecDeque.{deque_capacity};
 ghost use Rattle.tipc_types.specs.declared.packet_lists.Taken.{Taken};
 ghost use Rattle.tipc_recv_window.specs.Receiving.{filled};
@@ -51,23 +51,27 @@ pub struct WindowArrival {
     wanted: u64,
     /// Where the packet stands.
     place: Place,
-    /// The packet, where it is to be held behind the wanted one.
-    held: Option<Taken>,
-    /// Room for the packets of a window, where the packet is to be held.
-    room: VecDeque<Option<Taken>>,
     /// How many packets are taken.
     count: usize,
+    /// The packet, where it is to be held behind the wanted one, with room for the packets of a window.
+    held: VecDeque<Option<Taken>>,
 }
 
 impl Model for WindowArrival {
+    ghost use Rattle.std.specs.Prelude.{None, slice_index_or};
     ghost use Rattle.std.specs.VecDeque.{deque_capacity};
     ghost use Rattle.tipc_recv_window.specs.Receiving.{Coming, HasRoom};
 
     ghost Value = { Coming };
 
-    ghost view = { λ a. record { wanted = a.wanted; place = a.place; held = a.held; count = a.count } };
+    ghost view = { λ a. record {
+      wanted = a.wanted;
+      place = a.place;
+      held = slice_index_or a.held.items 0 None;
+      count = a.count;
+    } };
 
-    ghost invariant = { λ a. HasRoom a.wanted a.held a.count a.room.items (deque_capacity a.room) };
+    ghost invariant = { λ a. HasRoom a.wanted a.held.items a.count (deque_capacity a.held) };
 }
 
 impl WindowArrival {
@@ -77,6 +81,16 @@ impl WindowArrival {
     {
         self.place
     }
+}
+
+/// Takes the packet out that stands alone in its room, where there is one.
+fn take_held(room: &mut VecDeque<Option<Taken>>) -> Option<Taken>
+    requires { length room.old.items ≤ 1 }
+    ensures packet { result ≡ slice_index_or room.old.items 0 None }
+    ensures empty { room.new.items ≡ [] }
+    ensures room { deque_capacity room.new ≡ deque_capacity room.old }
+{
+    room.pop_front()?
 }
 
 impl RecvWindow {
@@ -272,13 +286,9 @@ impl RecvWindow {
         ensures after { (packet : Taken) → arrival ≡ coming self.old packet →
             self.new ≡ drained (with_packet self.old packet) }
     {
-        let WindowArrival {
-            held,
-            room,
-            count,
-            ..
-        } = arrival;
-        match held {
+        let WindowArrival { held, count, .. } = arrival;
+        let mut room = held;
+        match take_held(&mut room) {
             None => self.pass(count),
             Some(packet) => self.hold(room, packet),
         }
@@ -293,9 +303,8 @@ impl RecvWindow {
         WindowArrival {
             wanted: self.wanted,
             place,
-            held: None,
-            room: VecDeque::new(alloc),
             count,
+            held: VecDeque::new(alloc),
         }
     }
 
@@ -305,12 +314,13 @@ impl RecvWindow {
         ensures { IfOk result (λ arrival. arrival ≡
             record { wanted = self.now.wanted; place = Place.Deferred; held = Some packet; count = 0 }) }
     {
+        let mut held = VecDeque::with_capacity(alloc, WINDOW)?;
+        held.push_back_reserved(Some(packet));
         Ok(WindowArrival {
             wanted: self.wanted,
             place: Place::Deferred,
-            held: Some(packet),
-            room: VecDeque::with_capacity(alloc, WINDOW)?,
             count: 0,
+            held,
         })
     }
 
@@ -318,15 +328,14 @@ impl RecvWindow {
     fn run_from(&self, alloc: Global, first: Taken) -> Result<TakenList, NoMemory>
         ensures { IfOk result (λ run. run ≡ first ∷ run_of (drop 1 self.now.held)) }
     {
-        let mut run = Vec::new(alloc);
-        run.push(first)?;
+        let mut run = TakenList::one(alloc, first);
         for place in 1..self.held.len() {
             match &self.held[place] {
                 Some(packet) => run.push(packet.clone()?)?,
-                None => return Ok(TakenList::from_vec(run)),
+                None => return Ok(run),
             }
         }
-        Ok(TakenList::from_vec(run))
+        Ok(run)
     }
 
     /// The first packets are taken, and the next one is wanted.

@@ -25,7 +25,8 @@ use Rattle.tipc_replay.proofs.casts.CastStarts.{start_casting}
 use Rattle.tipc_replay.proofs.casts.MemberLooks.{is_member, put_for, word_is}
 use Rattle.tipc_replay.proofs.casts.Meeting.{start_met}
 use Rattle.tipc_replay.proofs.journals.KeptWorlds.{start_watched}
-use Rattle.tipc_replay.proofs.states.EndsKept.{all_low, start_bounded, start_named, start_numbers, start_right}
+use Rattle.tipc_replay.proofs.states.CastLinksKept.{start_cast}
+use Rattle.tipc_replay.proofs.states.EndsKept.{all_low, start_bounded, start_named, start_numbers, start_packed, start_right}
 use Rattle.tipc_replay.proofs.states.PlainKept.{start_plain}
 use Rattle.tipc_replay.proofs.names.Sharing.{start_shared}
 use Rattle.tipc_replay.proofs.names.Rising.{numbers_rise}
@@ -123,9 +124,11 @@ start_steady = record {
   plain = start_plain;
   aged = start_aged;
   casts = start_casting;
+  cast_links = start_cast;
   ends = start_right;
   bounded = start_bounded;
   numbers = start_numbers;
+  packed = start_packed;
   originals = start_named;
 }
 

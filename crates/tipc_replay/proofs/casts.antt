@@ -5,6 +5,7 @@ pub mod MetStarts
 pub mod Guards
 pub mod Listing
 pub mod CasterLooks
+pub mod CastCounts
 pub mod StoryDeeds
 pub mod MemberGuards
 pub mod MemberTurn

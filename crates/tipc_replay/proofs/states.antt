@@ -7,4 +7,5 @@ pub mod TurnSays
 pub mod Each
 pub mod PlainKept
 pub mod EndsKept
+pub mod CastLinksKept
 pub mod StatesArrive

@@ -1,9 +1,10 @@
--- The link ends of all nodes, their numbers, and what their tunnel packets name.
+-- The link ends of all nodes, their numbers, how full their lists of packets are, and what their tunnel packets name.
 use Rattle.std.specs.Prelude.{◌≡◌, ℕ, List, Option, Some, None, slice_index_or}
 use Rattle.tipc_node.specs.Ends.{HasRightEnds}
 use Rattle.tipc_node.specs.Nodes.{NodeState}
 use Rattle.tipc_node.specs.Numbers.{AreLow, HasOwnNumbers, IsBounded}
 use Rattle.tipc_node.specs.Originals.{NameEnded}
+use Rattle.tipc_node.specs.Telling.{ArePacked}
 use Rattle.tipc_replay.specs.States.{MemberState}
 
 -- so is each node that is there
@@ -25,6 +26,10 @@ HaveOwnNumbers members = OfEach HasOwnNumbers members
 -- and the counts in them are low
 abbrev pub HaveLowNumbers : List (Option MemberState) → Type 0
 HaveLowNumbers members = OfEach AreLow members
+
+-- packets wait at each node only where as many are unacknowledged as may be
+abbrev pub HavePackedLists : List (Option MemberState) → Type 0
+HavePackedLists members = OfEach ArePacked members
 
 -- original tunnel packets of each node name sessions that are over
 abbrev pub AllNameEnded : List (Option MemberState) → Type 0

@@ -28,6 +28,7 @@ pub mod Aged
 pub mod Heard
 pub mod Plain
 pub mod Ends
+pub mod CastLinks
 pub mod Steady
 pub mod Replayed
 pub mod Casters

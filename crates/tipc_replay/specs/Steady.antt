@@ -2,8 +2,9 @@
 use Rattle.std.specs.Prelude.{List, Option}
 use Rattle.tipc_replay.specs.Aged.{AreAged}
 use Rattle.tipc_replay.specs.Answered.{AllAnswered}
+use Rattle.tipc_replay.specs.CastLinks.{HaveRightCasts}
 use Rattle.tipc_replay.specs.Castings.{AreCasting}
-use Rattle.tipc_replay.specs.Ends.{AllNameEnded, AreBounded, HaveOwnNumbers, HaveRightEnds}
+use Rattle.tipc_replay.specs.Ends.{AllNameEnded, AreBounded, HaveOwnNumbers, HavePackedLists, HaveRightEnds}
 use Rattle.tipc_replay.specs.Met.{AreMet}
 use Rattle.tipc_replay.specs.Plain.{AllPlain}
 use Rattle.tipc_replay.specs.Received.{AreReceived}
@@ -23,7 +24,9 @@ pub record IsSteady (members : List (Option MemberState)) (air : AirState) : Typ
   pub plain : AllPlain members
   pub aged : AreAged members air
   pub casts : AreCasting members air
+  pub cast_links : HaveRightCasts members
   pub ends : HaveRightEnds members
   pub bounded : AreBounded members
   pub numbers : HaveOwnNumbers members
+  pub packed : HavePackedLists members
   pub originals : AllNameEnded members

@@ -221,8 +221,7 @@ impl SendWindow {
             return Err(NoMemory);
         }
         self.stored.reserve(ROOM - self.stored.len())?;
-        self.waiting
-            .append(&mut VecDeque::from_vec(pieces.into_vec()))?;
+        pieces.move_to(&mut self.waiting)?;
         Ok(())
     }
 

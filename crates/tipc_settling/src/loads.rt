@@ -11,7 +11,7 @@ ghost use Rattle.tipc_node.specs.Arrivals.{Arrives};
 ghost use Rattle.tipc_node.specs.Calls.{CallTurn, Performs};
 ghost use Rattle.tipc_node.specs.Nodes.{NodeState};
 ghost use Rattle.tipc_node.specs.Sockets.{kept_answer};
-ghost use Rattle.tipc_settling.specs.Loads.{AddsNothing, IsCalm};
+ghost use Rattle.tipc_settling.specs.Loads.{AddsNothing, IsCalm, PutsNothing};
 
 /// By an arrival or a tick that tells nothing of links and contacts no more is under way than before: each packet that isn't acknowledged yet
 /// counts once, a message that was accepted and isn't delivered three times, and one that came back once. So a message that is delivered makes room
@@ -23,4 +23,14 @@ pub fn calm_events_add_nothing()
     ensures ticks { (n n' : NodeState) (by : By) (frames : List Outgoing) (answered : Answer)
         → Performs n by Tick n' frames answered
         → CallTurn n n' by Tick [] (kept_answer answered) frames → IsCalm n n' → AddsNothing n n' }
+{}
+
+/// So it is with the packets that were ever put on links, whether they are acknowledged by now or not. (This project's profile.)
+pub fn calm_events_put_nothing()
+    ensures arrives { (n n' : NodeState) (by : By) (bearer number : ℕ) (bytes : List ℕ) (frames : List Outgoing) (answered : Arrival)
+        → Arrives n n' by bearer number bytes frames answered
+        → CallTurn n n' by (Arrive bearer number) bytes (Arrived answered) frames → IsCalm n n' → PutsNothing n n' }
+    ensures ticks { (n n' : NodeState) (by : By) (frames : List Outgoing) (answered : Answer)
+        → Performs n by Tick n' frames answered
+        → CallTurn n n' by Tick [] (kept_answer answered) frames → IsCalm n n' → PutsNothing n n' }
 {}

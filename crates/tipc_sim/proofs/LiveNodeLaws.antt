@@ -4,7 +4,7 @@ use Rattle.std.specs.Prelude.{nat_le, nat_lt, slice_index_or}
 use Rattle.std.proofs.Common.{◌≡◌, ℕ, zero, suc, ◌+◌, ◌*◌, ◌<◌, ◌≤◌, ◌==◌, Bool, true, false, arith, List, [], ◌∷◌, ◌++◌, append-nil, append_assoc, drop, length, map, refl, sym, subst, take, ◌∙◌, ap, eq-eqb}
 use Rattle.std.proofs.lemmas.Bool.{and_from}
 use Rattle.std.proofs.lemmas.Bool.Decides.{nat_tests}
-use Rattle.std.proofs.lemmas.List.{drop-drop, get_or-drop, get_or_at, get_or_default, length-drop, length-map, length_push, map_push, nil_from_length, take_all}
+use Rattle.std.proofs.lemmas.List.{drop-drop, get_or-drop, get_or_at, length-drop, length-map, length_push, map_push, nil_from_length, take_all}
 use Rattle.std.proofs.lemmas.List.Sums.{count_by_more_no, count_by_more_yes, list_all-from_AllPass}
 use Rattle.tipc_types.specs.Address.{node_word}
 use Rattle.tipc_node_lock.specs.Locked.{LockedState}
@@ -212,24 +212,3 @@ has_run {P} tried given faults plan bearers g nodes failed bearers' left own = r
 -- the first nodes, so many of them, are nodes 1, 2 and so on
 pub record AreFirstInOrder {P : Type 0} (nodes : List (LockedState P)) (count : ℕ) : Type 0 where
   pub each : (i : ℕ) (n : LockedState P) → i < count → (slice_index_or nodes i n).node.own ≡ node_word (i + 1)
-
-pub ordered_more : {P : Type 0} (nodes : List (LockedState P)) (k : ℕ) (one : LockedState P) → AreFirstInOrder nodes k → k < length nodes → one ≡ slice_index_or nodes k one
-    → one.node.own ≡ node_word (k + 1) → AreFirstInOrder nodes (k + 1)
-ordered_more {P} nodes k one before inside read own = record {
-  each = λ i n less. elim (nat_lt i k) as (λ b. nat_lt i k ≡ b → (slice_index_or nodes i n).node.own ≡ node_word (i + 1)) [
-    | true ↦ λ test. before.each i n (grind (arith, nat_tests))
-    | false ↦ λ test.
-        let up : k ≤ i = grind (arith, nat_tests) in
-        let same : k ≡ i = omega (arith, up, less) in
-        subst (λ j. (slice_index_or nodes j n).node.own ≡ node_word (j + 1)) same
-        (ap (λ (m : LockedState P). m.node.own) (sym (read ∙ get_or_default nodes k one n inside)) ∙ own)
-  ] refl;
-}
-
-pub ordered_all : {P : Type 0} (nodes : List (LockedState P)) (k : ℕ) → length nodes ≤ k → AreFirstInOrder nodes k → AreNodesInOrder nodes
-ordered_all nodes k over h i n less = h.each i n (omega (arith, over, less))
-
--- where one is another, they aren't
-pub not_in_order : {P : Type 0} (nodes : List (LockedState P)) (k : ℕ) (one : LockedState P) → k < length nodes → one ≡ slice_index_or nodes k one
-    → (one.node.own ≡ node_word (k + 1) → ⊥) → AreNodesInOrder nodes → ⊥
-not_in_order {P} nodes k one inside read other ordered = other (ap (λ (m : LockedState P). m.node.own) read ∙ ordered k one inside)

@@ -1,5 +1,5 @@
 -- Messages that are sent and received again and again, step by step.
-use Rattle.std.proofs.Common.{◌≡◌, ℕ, ◌+◌, ◌<◌, Bool, true, List, Result, Ok, Err, refl, sym, ap, subst, ◌∙◌, inr}
+use Rattle.std.proofs.Common.{◌≡◌, ℕ, ◌+◌, ◌<◌, ◌≤◌, Bool, true, List, Result, Ok, Err, refl, sym, ap, subst, ◌∙◌, inr, arith}
 use Rattle.tipc_types.specs.declared.node_calls.EventNote.TheVariants as call
 use Rattle.tipc_types.specs.declared.message_forms.Importance.{Importance}
 use Rattle.tipc_types.specs.declared.node_calls.Answer.{Answer}
@@ -15,9 +15,10 @@ use Rattle.tipc_world.specs.States.{WorldState, WorldView}
 use Rattle.tipc_sim.specs.declared.messages.Socket.{Socket}
 use Rattle.tipc_world.specs.declared.places.Places.{Places}
 use Rattle.tipc_world.specs.Courses.{Continues, Once}
+use Rattle.tipc_world.proofs.Continuing.{continues_more}
 use Rattle.tipc_sim.specs.Meanings.{Pumps}
 use Rattle.tipc_sim.specs.Happenings.{beside, sending, told_of, Conversed, Moves, Repeated}
-use Rattle.tipc_sim.specs.Messages.{is_call, is_message, is_sent, low_message, Bursts, FollowsSending, PumpsAndReceives, PumpsBoth, ReceivesAll, Repeats, SendsAgain, Turn, MakesTurns}
+use Rattle.tipc_sim.specs.Messages.{is_call, is_message, is_sent, low_message, Bursts, FollowsSending, PumpsAndReceives, PumpsBoth, ReceivesAll, Repeats, go_on, SendsAgain, Turn, MakesTurns}
 use Rattle.tipc_sim.specs.Noted.{NotesState}
 
 -- a message that can be sent can be sent later
@@ -39,6 +40,14 @@ receive_halts node port start count before now stop passed stopped = record { co
 -- how many events a receive leaves
 pub receive_counts : (old : WorldState) (node port : ℕ) (new : WorldState) (answer : Answer) → Once (event.Call node (call.Receive port)) old (Ok answer) new → (old.events < 300000) × (new.events ≡ old.events + 1)
 receive_counts old node port new answer made = (made.answered.free.below refl, made.answered.step.events)
+
+-- one message more was received
+pub received_more : {P : Type 0} {gives : P → ℕ → ℕ → ℕ → Type 0} (start old new : WorldView P) (node port count : ℕ) (answer : Answer) → Repeats (event.Call node (call.Receive port)) is_message start.state count old.state
+    → Continues gives start old → count ≤ old.state.events → Once (event.Call node (call.Receive port)) old.state (Ok answer) new.state → Continues gives old new → is_message answer ≡ true
+    → Repeats (event.Call node (call.Receive port)) is_message start.state (count + 1) new.state × Continues gives start new × (count + 1 ≤ new.state.events)
+received_more start old new node port count answer passed continues fewer once more is =
+    let counts = receive_counts old.state node port new.state answer once in
+    (go_on count old.state answer new.state passed once is, continues_more start old new continues more, omega (arith, fewer, counts.1))
 
 -- the frames of bearer 0 were pumped, and an arrival on bearer 1 was stopped
 pub second_halts : (places : Places) (start between now : WorldState) (first : Told) (f : WorldFault) → Pumps 0 places.first start (Ok first) between → Pumps 1 places.second between (Err f) now

@@ -1,4 +1,6 @@
 pub mod Address
+pub mod Bodies
+pub mod Fews
 pub mod Limits
 pub mod LinkStates
 pub mod Matching

@@ -3,6 +3,7 @@
 #![tactic(auto)]
 
 mod bodies;
+mod few;
 mod identity;
 mod link_words;
 mod memory;
@@ -14,6 +15,7 @@ mod sequences;
 mod services;
 
 pub use bodies::Body;
+pub use few::Few;
 pub use identity::{Addr, PortId, To};
 pub use link_words::{BroadcastState, Cause, LinkState, OldSession, Reply, Why};
 pub use memory::NoMemory;

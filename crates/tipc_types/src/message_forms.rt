@@ -1,6 +1,7 @@
 //! Messages: importance, flow, form, and the items of name distribution.
 
 use crate::bodies::Body;
+use crate::few::Few;
 use crate::identity::PortId;
 use crate::sequences::Sequence;
 
@@ -57,7 +58,7 @@ pub struct Item {
 }
 
 /// Items in order.
-pub type ItemList = Sequence<Item>;
+pub type ItemList = Few<Item>;
 
 /// A message as one node gives it to another. Fields that a form lacks are 0, except that a named
 /// message has `upper` equal to `lower`.

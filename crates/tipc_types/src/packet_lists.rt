@@ -1,5 +1,6 @@
 //! Packets that are kept or taken, with where they came from.
 
+use crate::few::Few;
 use crate::sequences::{Bytes, Sequence};
 
 /// A packet that is unacknowledged, beside its link sequence number.
@@ -26,4 +27,4 @@ pub struct Taken {
 }
 
 /// Packets that were taken, in order.
-pub type TakenList = Sequence<Taken>;
+pub type TakenList = Few<Taken>;

@@ -2,6 +2,7 @@
 
 ghost use Rattle.std.specs.Prelude.{◌≡◌, ◌==◌, ◌++◌, ◌∷◌, [], length, IfOk, OnErr, OnOk};
 
+use crate::few::Few;
 use crate::memory::NoMemory;
 use std::alloc::{AllocError, Global};
 use std::marker::Model;
@@ -16,7 +17,7 @@ pub struct Sequence<T> {
 pub type Bytes = Sequence<u8>;
 
 /// The packets that one message is cut into, in order.
-pub type Pieces = Sequence<Bytes>;
+pub type Pieces = Few<Bytes>;
 
 /// The packets inside a bundle, in order.
 pub type Inner = Sequence<Bytes>;

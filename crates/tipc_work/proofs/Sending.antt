@@ -31,9 +31,6 @@ same_still_self p = record { of_table = refl; own = refl; caller = refl; full = 
 
 -- ---- one call more
 
-with_answer : MadeCall → EventNote × Answer
-with_answer m = (m.call, m.answer)
-
 -- one call more
 pub calls_one : (p p' : PassState) (call : EventNote) (kept : Answer) → MakesCall p p' call kept → MakesCalls p p' ((call, kept) ∷ [])
 calls_one p p' call kept h = record {

@@ -1,16 +1,16 @@
 -- Calls that were made show the plan where each message's tries follow those of the one before, and how many these are is certain.
 use Rattle.std.specs.List.{All}
-use Rattle.std.specs.Prelude.{◌==◌, ◌↔◌, nat_lt, slice_index_or}
-use Rattle.std.proofs.Common.{◌≡◌, ◌⊎◌, inl, inr, ℕ, zero, suc, ◌+◌, ◌-◌, ◌<◌, ◌≤◌, Bool, true, false, arith, List, [], ◌∷◌, ◌++◌, drop, length, length-append, map, refl, sym, subst, take, ◌∙◌, ap}
+use Rattle.std.specs.Prelude.{nat_lt, slice_index_or}
+use Rattle.std.proofs.Common.{◌≡◌, ◌⊎◌, inl, inr, ℕ, zero, suc, ◌+◌, ◌-◌, ◌<◌, ◌≤◌, true, false, arith, List, [], ◌∷◌, ◌++◌, drop, length, length-append, map, refl, sym, subst, take, ◌∙◌, ap}
 use Rattle.std.proofs.lemmas.Bool.Decides.{nat_tests}
 use Rattle.std.proofs.lemmas.List.{drop-append-le, drop-map, drop_all, get_or-map, get_or_default, get_or-take, get_or_push, length-map, length-take-le, map-append, map_more, take-append-drop, take-append-le, take-map, take-take, take_all}
 use Rattle.std.proofs.lemmas.List.Elements.{All-map, All-more, All-take}
 use Rattle.tipc_types.specs.declared.node_calls.Answer.{Answer}
 use Rattle.tipc_types.specs.declared.node_calls.EventNote.{EventNote}
-use Rattle.tipc_types.specs.declared.node_calls.EventNote.TheVariants.{Mend, Socket}
+use Rattle.tipc_types.specs.declared.node_calls.EventNote.TheVariants.{Socket}
 use Rattle.tipc_node_lock.specs.declared.passes.MadeCall.{MadeCall}
 use Rattle.tipc_work.specs.declared.plans.LivePlan.{LivePlan}
-use Rattle.tipc_work.specs.Plans.{AreTries, ShowsCaller, ShowsMover, is_again, named_send, port_made, publishing, sends_from}
+use Rattle.tipc_work.specs.Plans.{AreTries, ShowsCaller, is_again, named_send, port_made, publishing, sends_from}
 use Rattle.tipc_work.specs.Showing.{AreSends, BeginWithTries}
 use Rattle.tipc_work.specs.Shown.{calls_made}
 
@@ -27,14 +27,6 @@ pub record AreTriedAgain (call : EventNote) (made : List MadeCall) (count : ℕ)
   pub few : count < 1000
   pub calls : All (λ m. m.call ≡ call) (take count made)
   pub again : All (λ m. is_again m.answer ≡ true) (take count made)
-
-pub again_none : (call : EventNote) (made : List MadeCall) → AreTriedAgain call made 0
-again_none call made = record {
-  within = omega arith;
-  few = omega arith;
-  calls = λ i d less. absurd (omega (arith, less));
-  again = λ i d less. absurd (omega (arith, less));
-}
 
 -- one more
 pub again_more : (call : EventNote) (made : List MadeCall) (k : ℕ) (one : MadeCall) → AreTriedAgain call made k → k < length made → one ≡ slice_index_or made k one
@@ -248,12 +240,6 @@ pub record LeavesSends (call : ℕ → EventNote) (messages number : ℕ) (made 
   pub on : AreSends call 0 messages (calls_made made) → AreSends call number (messages - number) (calls_made rest)
   pub back : AreSends call number (messages - number) (calls_made rest) → AreSends call 0 messages (calls_made made)
 
-pub leaves_all : (call : ℕ → EventNote) (messages : ℕ) (made : List MadeCall) → LeavesSends call messages 0 made made
-leaves_all call messages made = record {
-  on = subst (λ k. AreSends call 0 k (calls_made made)) (omega arith);
-  back = subst (λ k. AreSends call 0 k (calls_made made)) (omega arith);
-}
-
 pub leaves_more : (call : ℕ → EventNote) (messages number : ℕ) (made rest : List MadeCall) (n : ℕ) → number < messages → LeavesSends call messages number made rest
     → BeginWithTries (call number) rest n → LeavesSends call messages (number + 1) made (drop n rest)
 leaves_more call messages number made rest n less h b = record {
@@ -272,29 +258,7 @@ leaves_none call messages number made rest less h none s =
     let one : messages - number ≡ messages - (number + 1) + 1 = omega (arith, less) in
     let f = sends_front call number (messages - (number + 1)) rest (subst (λ k. AreSends call number k (calls_made rest)) one (h.on s)) in none f.0 f.1
 
--- none is left
-pub leaves_end : (call : ℕ → EventNote) (messages number : ℕ) (made rest : List MadeCall) (empty : Bool) → messages ≤ number → LeavesSends call messages number made rest
-    → empty ≡ (length rest == 0) → (empty ≡ true) ↔ AreSends call 0 messages (calls_made made)
-leaves_end call messages number made [] empty over h is =
-    (λ _. h.back (record { tries = []; messages = omega (arith, over); each = λ i d less. absurd (omega (arith, less)); is = refl }), λ _. is)
-leaves_end call messages number made (m ∷ ms) empty over h is = (λ on. let off : (length (m ∷ ms) == 0) ≡ false = grind (arith, nat_tests) in absurd cc, λ s. absurd (by (h.on s).tries (h.on s).messages (h.on s).is))
-  where
-    by : (tries : List (List Answer)) → length tries ≡ messages - number → calls_made (m ∷ ms) ≡ sends_from call number tries → ⊥
-    by [] none same = cc
-    by (t ∷ ts) some same = omega (arith, some, over)
-
 -- ---- a caller and a mover
-
--- fewer than two calls show neither
-pub caller_short : (plan : LivePlan) (node caller : ℕ) (made : List MadeCall) → length made < 2 → ShowsCaller plan node caller (calls_made made) → ⊥
-caller_short plan node caller [] less s = let is = s.is in cc
-caller_short plan node caller (m ∷ []) less s = let is = s.is in cc
-caller_short plan node caller (m ∷ n ∷ ms) less s = omega (arith, less)
-
-pub mover_short : (made : List MadeCall) → length made < 2 → ShowsMover (calls_made made) → ⊥
-mover_short [] less s = let is = s.is in cc
-mover_short (m ∷ []) less s = let is = s.is in cc
-mover_short (m ∷ n ∷ ms) less s = omega (arith, less)
 
 -- what a caller's calls are where they show its part: its socket, its publication, and the messages behind them
 pub caller_parts : (plan : LivePlan) (node caller : ℕ) (made : List MadeCall) (m n : MadeCall) → 2 ≤ length made → m ≡ slice_index_or made 0 m → n ≡ slice_index_or made 1 n
@@ -338,29 +302,4 @@ caller_whole plan node caller (x ∷ y ∷ zs) m n two first second socket publi
       ∙ ap (λ c. (c, m.answer) ∷ (y.call, y.answer) ∷ calls_made zs) socket
       ∙ ap (λ c. (Socket, m.answer) ∷ (c, y.answer) ∷ calls_made zs) (ap (λ (z : MadeCall). z.call) (sym second) ∙ publication)
       ∙ ap (λ zs. (Socket, m.answer) ∷ (publishing node caller (port_made m.answer), y.answer) ∷ zs) s.is;
-}
-
--- what a mover's calls are where they show its part
-pub mover_parts : (made : List MadeCall) (m n : MadeCall) → 2 ≤ length made → m ≡ slice_index_or made 0 m → n ≡ slice_index_or made 1 n → ShowsMover (calls_made made)
-    → (m.call ≡ Mend 0) × (n.call ≡ Mend 1)
-mover_parts [] m n two first second s = absurd (omega (arith, two))
-mover_parts (x ∷ []) m n two first second s = absurd (omega (arith, two))
-mover_parts (x ∷ y ∷ zs) m n two first second s =
-    let is = s.is in
-    let one : (x.call, x.answer) ≡ (Mend 0, s.first) = cc in
-    let other : (y.call, y.answer) ≡ (Mend 1, s.second) = cc in (
-      ap (λ (z : MadeCall). z.call) first ∙ ap (λ (q : EventNote × Answer). q.0) one,
-      ap (λ (z : MadeCall). z.call) second ∙ ap (λ (q : EventNote × Answer). q.0) other,
-    )
-
-pub mover_whole : (made : List MadeCall) (m n : MadeCall) → 2 ≤ length made → m ≡ slice_index_or made 0 m → n ≡ slice_index_or made 1 n → m.call ≡ Mend 0 → n.call ≡ Mend 1
-    → ShowsMover (calls_made made)
-mover_whole [] m n two first second one other = absurd (omega (arith, two))
-mover_whole (x ∷ []) m n two first second one other = absurd (omega (arith, two))
-mover_whole (x ∷ y ∷ zs) m n two first second one other = record {
-  first = x.answer;
-  second = y.answer;
-  behind = calls_made zs;
-  is = ap (λ c. (c, x.answer) ∷ (y.call, y.answer) ∷ calls_made zs) (ap (λ (z : MadeCall). z.call) (sym first) ∙ one)
-      ∙ ap (λ c. (Mend 0, x.answer) ∷ (c, y.answer) ∷ calls_made zs) (ap (λ (z : MadeCall). z.call) (sym second) ∙ other);
 }

@@ -1,19 +1,16 @@
 -- A step of a world, put together from what became of its nodes and its air, and from its counts.
-use Rattle.std.proofs.Common.{◌≡◌, ◌≤◌, ◌<◌, ◌+◌, ℕ, Bool, true, false, List, Option, Some, None, slice_index_or, sym, ap, ◌∙◌}
+use Rattle.std.proofs.Common.{◌≡◌, ◌≤◌, ◌<◌, ◌+◌, ℕ, Bool, true, List, Option, Some, None, slice_index_or, sym, ap, ◌∙◌}
 use Rattle.std.specs.Prelude.{if◌then◌else◌, option_map, unwrap_or, ◌&&◌}
 use Rattle.tipc_types.specs.Address.{node_word}
 use Rattle.tipc_types.specs.declared.node_calls.Answer.{Answer}
 use Rattle.tipc_types.specs.declared.node_calls.By.{By}
 use Rattle.tipc_replay.specs.Skies.{air_size}
 use Rattle.tipc_replay.specs.declared.events.WorldEvent.{WorldEvent}
-use Rattle.tipc_replay.specs.Calls.{counts_at, has_room_at, is_call_at, is_recorded, node_of, CallStops}
-use Rattle.tipc_node.specs.declared.steps.NodeFault.{NodeFault}
-use Rattle.tipc_node.specs.declared.steps.NodeFault.TheVariants.{JournalFull, NoMemory}
-use Rattle.tipc_world.specs.Events.{fault_of}
+use Rattle.tipc_replay.specs.Calls.{counts_at, is_call_at, is_recorded, node_of}
 use Rattle.tipc_replay.specs.Sound.{IsNumber}
 use Rattle.tipc_replay.specs.States.{MemberState, ReplayState}
 use Rattle.tipc_replay.specs.Steps.{IsReplayStep}
-use Rattle.tipc_world.specs.Limits.{IsAnswered, IsFree, IsStopped, PassesFrames}
+use Rattle.tipc_world.specs.Limits.{IsAnswered, IsFree, PassesFrames}
 use Rattle.tipc_world.specs.States.{WorldState}
 use Rattle.tipc_world.specs.Steps.{by_in, IsStep}
 
@@ -79,14 +76,3 @@ passes_of r r' event events stamps events' stamps' counted answered step k free 
   free = free;
   over = over;
 }
-
--- ---- an event that didn't happen
-
-counts_of : (recorded counted : Bool) → (recorded && counted) ≡ true → counted ≡ true
-counts_of true counted is = is
-counts_of false counted is = absurd cc
-
-pub stopped_of : (r : ReplayState) (event : WorldEvent) (events : ℕ) (why : NodeFault) → (counts_at r.members r.air event ≡ true → events < 300000)
-    → CallStops (is_call_at r.members r.air event) (has_room_at r.members (node_of event)) why → IsStopped r.members r.air events event (fault_of why)
-stopped_of r event events JournalFull below h = (below (counts_of (is_recorded event) (counts_at r.members r.air event) h.0), h.0, h.1)
-stopped_of r event events NoMemory below h = tt

@@ -1,11 +1,8 @@
 -- Frames that arrive, by the numbers of their places.
-use Rattle.std.proofs.Common.{◌≡◌, ◌≢◌, ◌≤◌, ◌<◌, ◌+◌, ◌*◌, ◌/◌, ◌%◌, ◌-◌, ℕ, Bool, true, false, Option, Some, None, Result, Ok, Err, refl, sym, ap, subst, ◌∙◌, arith, if◌then◌else◌, is_some, slice_get, slice_index_or}
+use Rattle.std.proofs.Common.{◌≡◌, ◌≢◌, ◌≤◌, ◌<◌, ◌+◌, ◌*◌, ◌/◌, ◌%◌, ◌-◌, ℕ, Bool, true, false, Option, Some, None, Result, Ok, Err, refl, sym, ap, subst, ◌∙◌, arith, if◌then◌else◌, is_some, slice_index_or}
 use Rattle.std.specs.Prelude.{◌&&◌, ◌==◌}
 use Rattle.std.proofs.lemmas.Bool.Decides.{nat_tests}
 use Rattle.tipc_types.specs.Address.{node_word}
-use Rattle.tipc_types.specs.declared.identity.Addr.{Addr}
-use Rattle.tipc_types.specs.declared.identity.To.TheVariants as to
-use Rattle.tipc_replay.specs.declared.air.Sent.{Sent}
 use Rattle.tipc_replay.specs.Due.{frame_for, is_for, kept_for}
 use Rattle.tipc_replay.specs.Replayed.{IsReplayed}
 use Rattle.tipc_replay.specs.Skies.{AirState, air_on}
@@ -114,7 +111,3 @@ number_there w n kept there = at (slice_index_or w.members n None) refl there
     at : (o : Option MemberState) → slice_index_or w.members n None ≡ o → is_some o ≡ true → (1 ≤ n) × (n ≤ 32)
     at None is there = absurd (let wrong : ⊥ = cc in wrong)
     at (Some m) is there = (kept.numbered n m is).0
-
--- a frame that names a node is for it alone
-pub names_one : (air : AirState) (bearer place : ℕ) (f : Sent) (address : Addr) (n : ℕ) → slice_get (air_on bearer air) place ≡ Some f → f.to ≡ to.Node address → address.word ≡ node_word n → IsForOne air bearer place n
-names_one air bearer place f address n stands named word = record { frame = f; stands = stands; to_is = named ∙ ap (λ k. to.Node (record { word = k })) word }

@@ -6,4 +6,5 @@ pub mod Promise
 pub mod Continuing
 pub mod CourseLaws
 pub mod Arrivals
+pub mod casts
 pub mod rounds

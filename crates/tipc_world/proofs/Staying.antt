@@ -6,7 +6,6 @@ use Rattle.std.proofs.lemmas.List.{append-nil}
 use Rattle.tipc_types.specs.Prefixes.{IsPrefixOf}
 use Rattle.tipc_types.specs.declared.node_calls.Answer.{Answer}
 use Rattle.tipc_journal.specs.declared.entries.Entry.{Entry}
-use Rattle.tipc_replay.specs.Events.{JoinsAt}
 use Rattle.tipc_world.specs.declared.faults.Limit.TheVariants as limit
 use Rattle.tipc_replay.specs.declared.events.WorldEvent.{WorldEvent}
 use Rattle.tipc_world.specs.declared.faults.WorldFault.{WorldFault}
@@ -85,10 +84,6 @@ joined_grows old new n absent j = record {
 pub joining_grows : {P E : Type 0} (old new : WorldView P) (n : ℕ) (result : Result (Unit {0}) E) → is_there old.state n ≡ false → OnOk result (IsJoined old.state new.state n) → OnErr result (new ≡ old) → Grows old.state new.state
 joining_grows old new n (Ok done) absent joined same = joined_grows old.state new.state n absent joined
 joining_grows old new n (Err why) absent joined same = (same_stays old.state new.state (ap (λ v. v.state) same)).grown
-
-pub joins_world : (old : WorldState) (members : List (Option MemberState)) (n : ℕ) → JoinsAt old.members members n 1
-    → IsJoined old (record { members = members; air = old.air; events = old.events; stamps = old.stamps; lost = old.lost }) n
-joins_world old members n j = record { newcomer = j.newcomer; fresh = j.fresh; here = j.here; others = j.others; air = refl; events = refl; stamps = refl; lost = refl }
 
 pub absent_at : (w : WorldState) (n : ℕ) → is_there w n ≡ false → slice_index_or w.members n None ≡ None
 absent_at w n absent = none_there w.members n absent

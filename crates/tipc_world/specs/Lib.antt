@@ -18,6 +18,7 @@ pub mod YoungWorlds
 pub mod HeardWorlds
 pub mod Directions
 pub mod Rows
+pub mod CastRows
 pub mod Measures
 pub mod RisingWorlds
 pub mod Acknowledged

@@ -7,6 +7,8 @@ use Rattle.tipc_link_fsm.specs.Table.{is_held}
 use Rattle.tipc_link.specs.Links.{LinkEnd}
 use Rattle.tipc_replay.specs.Readers.{unacked_in, waiting_in}
 use Rattle.tipc_replay.specs.States.{MemberState, accepted_at, contact_at, delivered_at, has_member, is_link_up_at, is_mended_at, link_at}
+use Rattle.tipc_world.specs.declared.settling.Settled.{Settled}
+use Rattle.tipc_world.specs.declared.settling.Settled.TheVariants.{Quiet}
 use Rattle.tipc_world.specs.Answered.{sum_to}
 use Rattle.tipc_world.specs.States.{WorldState}
 
@@ -86,6 +88,11 @@ load_under_way w = packets_under_way w + messages_under_way w
 abbrev pub IsAllDelivered : WorldState → Type 0
 IsAllDelivered w = (a b own theirs : ℕ) (flow : Flow) → contact_at w.members a b ≡ Some (own, theirs)
     → delivered_at w.members b a theirs own flow ≡ accepted_at w.members a b own theirs flow
+
+-- A call that settled came to rest: its answer is that no packet is under way, and all is delivered.
+pub record ComesToRest (settled : Settled) (now : WorldState) : Type 0 where
+  pub quiet : settled ≡ Quiet
+  pub delivered : IsAllDelivered now
 
 -- ---- before a cluster comes up
 

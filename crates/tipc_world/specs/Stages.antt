@@ -1,22 +1,16 @@
 -- How two nodes come up to one another on a bearer, step by step, and what a round finds that takes each such pair one step further.
-use Rattle.std.specs.Prelude.{◌≡◌, ◌≢◌, ◌≤◌, ℕ, true, false, None, Some, is_some, length, slice_index_or}
-use Rattle.tipc_types.specs.Limits.{most_age}
+use Rattle.std.specs.Prelude.{◌≡◌, ◌≢◌, ◌≤◌, ℕ, true, false, None, Some, is_some, slice_index_or}
 use Rattle.tipc_pair.specs.Facing.{facing, is_up_at}
 use Rattle.tipc_settling.specs.Rises.{AnswersAt}
 use Rattle.tipc_node.specs.Nodes.{pair_with}
-use Rattle.tipc_replay.specs.declared.air.Sent.{Sent}
-use Rattle.tipc_replay.specs.Due.{age_of}
-use Rattle.tipc_replay.specs.Skies.{air_on}
-use Rattle.tipc_replay.specs.Sound.{IsNumber}
 use Rattle.tipc_replay.specs.States.{MemberState, is_mended_at}
 use Rattle.tipc_world.specs.declared.places.Places.{Places}
 use Rattle.tipc_world.specs.CalmWorlds.{IsFromMended}
 use Rattle.tipc_world.specs.Ends.{AreBefore, ends_of}
 use Rattle.tipc_world.specs.Poised.{IsDownWorld}
 use Rattle.tipc_world.specs.RisingWorlds.{AreUpsAnswered, IsRisingNode}
-use Rattle.tipc_world.specs.RoundParts.{Guards, HasArrivedOnce, IsKept, IsRound}
+use Rattle.tipc_world.specs.RoundParts.{Guards, IsKept, IsRound}
 use Rattle.tipc_world.specs.States.{WorldState, is_there}
-use Rattle.tipc_world.specs.Settling.{Rounds}
 use Rattle.tipc_world.specs.StillWorlds.{footing_at}
 
 -- two nodes share a bearer: both are there, and it is mended at both
@@ -62,30 +56,19 @@ pub record IsMetNode (start : WorldState) (most step n : ℕ) (m : MemberState) 
 abbrev pub IsMetWorld : WorldState → ℕ → ℕ → WorldState → Type 0
 IsMetWorld start most step w = Guards start (ends_of start.air) (IsMetNode start most step) (IsFromMended start) w
 
--- no frame that leaves at a tick of a round is too old when it arrives in the round
-pub record TicksArriveYoung (places : Places) (outset : WorldState) (ends : Places) (now : WorldState) (r : IsRound places outset ends now) : Type 0 where
-  pub first : (place n : ℕ) (f : Sent) → IsNumber n → length (air_on 0 outset.air) ≤ place → (once : HasArrivedOnce 0 places.first (length r.ticked.air.first) r.ticked r.between place n f) → age_of once.before.members f n 0 ≤ most_age
-  pub second : (place n : ℕ) (f : Sent) → IsNumber n → length (air_on 1 outset.air) ≤ place → (once : HasArrivedOnce 1 places.second (length r.ticked.air.second) r.between now place n f) → age_of once.before.members f n 1 ≤ most_age
-
 -- A round begins so: the call began in a world in which no link was up, the ends on shared bearers are made, no link was silent for long, each link that is up
--- is answered; nothing is lost in the round, and no frame of its ticks is too old when it arrives.
+-- is answered; and nothing is lost in the round.
 pub record MetRound (start : WorldState) (most step : ℕ) (places : Places) (outset : WorldState) (ends : Places) (now : WorldState) (r : IsRound places outset ends now) : Type 0 where
   pub kept : IsKept start
   pub down : IsDownWorld start
   pub few : most ≤ 3
   pub behind : AreBefore (ends_of start.air) places
   pub within : AreBefore places (ends_of outset.air)
-  pub young : TicksArriveYoung places outset ends now r
   pub whole : now.lost ≡ false
   pub met : IsMetWorld start most step outset
   pub ups : AreUpsAnswered start outset
 
 -- ---- round by round
-
--- so it is in each round of a call in which nothing is lost, however many rounds are made
-abbrev pub AreAllYoung : WorldState → Type 0
-AreAllYoung start = (rounds : ℕ) (places : Places) (outset : WorldState) (ends : Places) (now : WorldState) → Rounds start rounds places outset
-    → (r : IsRound places outset ends now) → now.lost ≡ false → TicksArriveYoung places outset ends now r
 
 -- after the first round: no link is silent, each one that is up is answered, and all ends on shared bearers are made
 pub record HasMet (start w : WorldState) : Type 0 where

@@ -24,7 +24,6 @@ ghost use Rattle.tipc_world.specs.Poised.{packets_under_way, IsDownWorld, IsPois
 ghost use Rattle.tipc_world.specs.RisingWorlds.{AreUpsAnswered, IsRisingWorld};
 ghost use Rattle.tipc_world.specs.RoundParts.{ComesFrom, EachNode, GoesByRounds, GrowsNoMore, HappensWhole, HasArrivedOnce, HasTickedOnce, IsKept, IsRound, PartsAt, PartsAtRound, RoundStep, TickBrings};
 ghost use Rattle.tipc_world.specs.Settling.{arrival_asked, settled_by, tick_asked, Round, Rounds};
-ghost use Rattle.tipc_world.specs.Stages.{AreAllYoung};
 ghost use Rattle.tipc_world.specs.States.{is_there, WorldState};
 ghost use Rattle.tipc_world.specs.StillWorlds.{HasHeardAll, IsStillWorld, MayBeStill};
 
@@ -152,9 +151,9 @@ pub fn links_that_come_up_are_answered()
         → IsRisingWorld start most outset → AreUpsAnswered start outset → IsRisingWorld start (most + 1) now × AreUpsAnswered start now }
 {}
 
-/// A world in which no link is up or held is poised after four rounds or more in which no frame is lost, where no frame that leaves at a tick is too old
-/// when it arrives in its round: each two nodes stand on each bearer that is mended at both. (This project's profile.)
+/// A world in which no link is up or held is poised after four rounds or more in which no frame is lost: each two nodes stand on each bearer that is
+/// mended at both. (This project's profile.)
 pub fn a_new_world_comes_up()
-    ensures { (start : WorldState) (rounds : ℕ) (places : Places) (now : WorldState) → 4 ≤ rounds → IsKept start → IsDownWorld start → AreAllYoung start
+    ensures { (start : WorldState) (rounds : ℕ) (places : Places) (now : WorldState) → 4 ≤ rounds → IsKept start → IsDownWorld start
         → Rounds start rounds places now → now.lost ≡ false → IsPoised now }
 {}

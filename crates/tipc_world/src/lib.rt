@@ -16,7 +16,9 @@ pub use laws::{
     rounds_have_their_parts, settling_goes_by_events, what_a_tick_sends_arrives,
 };
 pub use places::Places;
-pub use repairs::{a_lost_packet_comes_in_four_rounds, no_more_is_under_way};
+pub use repairs::{
+    a_lost_packet_comes_in_four_rounds, four_rounds_leave_less, no_more_is_under_way,
+};
 pub use settling::{Receivers, Settled};
 pub use tipc_replay::{Arrived, FlowCounts, Replay, ReplayFault, Sent, WorldEvent};
 pub use worlds::World;

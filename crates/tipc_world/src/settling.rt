@@ -1,12 +1,12 @@
 //! Frames that arrive where they are for, and rounds of ticks and arrivals until nothing is under way.
 
 ghost use Rattle.std.specs.Prelude.{◌≡◌, ◌≤◌, ◌+◌, ◌*◌, true, if◌then◌else◌, is_some, IfOk, IfSome, OnOk};
-ghost use Rattle.tipc_world.specs.Acknowledged.{AllIsAcknowledged};
+ghost use Rattle.tipc_world.specs.Acknowledged.{AllCastsAreReleased, AllIsAcknowledged};
 ghost use Rattle.tipc_world.specs.Courses.{numbers, Continues, Maybe, Takes, TakesAll, TakesCounted};
 ghost use Rattle.tipc_world.specs.Ends.{ends_of, AreBefore};
 ghost use Rattle.tipc_world.specs.Good.{IsGood};
 ghost use Rattle.tipc_world.specs.Measures.{NoMoreIsUnderWay};
-ghost use Rattle.tipc_world.specs.Poised.{IsPoised, StaysPoised};
+ghost use Rattle.tipc_world.specs.Poised.{load_under_way, ComesToRest, IsDownWorld, IsPoised, StaysPoised};
 ghost use Rattle.tipc_replay.specs.Due.{frame_for};
 ghost use Rattle.tipc_replay.specs.Readers.{world_load};
 ghost use Rattle.tipc_world.specs.Settling.{arrival_asked, arrival_at, is_among, settled_by, tick_asked, Arrivals, Delivers, IsForOne, MakesRounds, Round, Settles};
@@ -329,6 +329,12 @@ impl<P: Pick> World<P> {
     /// this call began and haven't arrived in one of its rounds yet: those of bearer 0 first, and on a bearer in order. Frames that are sent
     /// while frames arrive wait for the next round. It answers whether packets are under way then.
     ///
+    /// Where it answers Ok, no frame was lost. Then a world that was poised (each two nodes have a link on each bearer that isn't cut at one of
+    /// them) stays poised, and no more is under way than before. 200 rounds acknowledge all that its links and broadcast links had numbered; and
+    /// 16 rounds, with 16 more for each packet and each message that was under way, bring it to rest: the answer is [`Settled::Quiet`], and all
+    /// that nodes in contact accepted for one another is delivered. A world in which no link end is up or held is poised after four rounds.
+    /// (This project's profile.)
+    ///
     /// # Errors
     ///
     /// The first fault of an event, as [`World::step`] answers it: the events before it happened. NoMemory too where all rounds were made and
@@ -338,9 +344,14 @@ impl<P: Pick> World<P> {
         ensures continues { Continues P.gives self.old self.new }
         ensures good { IsGood P.gives self.new }
         ensures poised { OnOk result (IsPoised self.old.state → StaysPoised self.old.state self.new.state) }
+        ensures comes_up { OnOk result (IsDownWorld self.old.state → 4 ≤ rounds → IsPoised self.new.state) }
         ensures under_way { OnOk result (IsPoised self.old.state → NoMoreIsUnderWay self.old.state self.new.state) }
         ensures acknowledged { OnOk result (IsPoised self.old.state → 200 ≤ rounds
             → AllIsAcknowledged self.old.state self.new.state) }
+        ensures broadcast { OnOk result (IsPoised self.old.state → 200 ≤ rounds
+            → AllCastsAreReleased self.old.state self.new.state) }
+        ensures quiet { IfOk result (λ settled. IsPoised self.old.state → 16 + 16 * load_under_way self.old.state ≤ rounds
+            → ComesToRest settled self.new.state) }
     {
         self.kept();
         let settled = self.go_round(alloc, rounds);

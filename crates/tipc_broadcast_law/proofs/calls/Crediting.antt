@@ -28,7 +28,7 @@ changed-here change keeps peer (d ∷ cs) c =
       | false ↦ λ t e. ap (λ b. cond b (Some d) (find (is_with peer) (with_changed peer change cs))) t ∙ changed-here change keeps peer cs c e
     ] refl
 
-changed-there : (change : Contact → Contact) → ((d : Contact) → (change d).peer ≡ d.peer) → (peer m : ℕ) (cs : List Contact) → (m ≡ peer → ⊥) → contact_with m (with_changed peer change cs) ≡ contact_with m cs
+pub changed-there : (change : Contact → Contact) → ((d : Contact) → (change d).peer ≡ d.peer) → (peer m : ℕ) (cs : List Contact) → (m ≡ peer → ⊥) → contact_with m (with_changed peer change cs) ≡ contact_with m cs
 changed-there change keeps peer m [] never = refl
 changed-there change keeps peer m (d ∷ cs) never =
     elim (is_with peer d) as (λ b. is_with peer d ≡ b → find (is_with m) (if b then change d ∷ cs else d ∷ with_changed peer change cs) ≡ find (is_with m) (d ∷ cs)) [

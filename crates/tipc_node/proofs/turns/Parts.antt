@@ -81,10 +81,12 @@ pub record IsPartOf (n : NodeState) (d : Upkeep) (b : ℕ) (y : Done) : Type 0 w
   pub link : Casting
   pub is : y ≡ done d (shown link (node_word b)) neighbour
 
--- the part at a place; the broadcast link has accepted what it had, and has the contact with that peer that it had
-record IsPartAt (d : Upkeep) (b : ℕ) (v : Casting) (place : Option Neighbour) (o : Option Done) : Type 0 where
+-- the part at a place, which comes behind a front of all these deeds; the broadcast link has accepted what it had, and has the contact with that peer that it had
+record IsPartAt (d : Upkeep) (b : ℕ) (v : Casting) (whole : List CastDeed) (place : Option Neighbour) (o : Option Done) : Type 0 where
   link : Casting
   deeds : List CastDeed
+  rest : List CastDeed
+  all : whole ≡ deeds ++ rest
   link_is : link ≡ after_deeds deeds v
   like : IsLikeFor (node_word b) v link
   is : o ≡ part_at d b link place
@@ -92,11 +94,20 @@ record IsPartAt (d : Upkeep) (b : ℕ) (v : Casting) (place : Option Neighbour) 
 like_then : (w : ℕ) (u v x : Casting) → IsLikeFor w u v → IsLikeFor w v x → IsLikeFor w u x
 like_then w u v x h k = record { contact = k.contact ∙ h.contact; accepted_is = k.accepted_is ∙ h.accepted_is }
 
-part_there : (d : Upkeep) (first : ℕ) (v : Casting) (xs : List (Option Neighbour)) (k : ℕ) → IsPartAt d (first + k) v (slice_index_or xs k None) (slice_index_or (part_all d first v xs) k None)
-unfolding part_all
-part_there d first v [] k = record { link = v; deeds = []; link_is = refl; like = record { contact = refl; accepted_is = refl }; is = refl }
+part_there : (d : Upkeep) (first : ℕ) (v : Casting) (xs : List (Option Neighbour)) (k : ℕ)
+    → IsPartAt d (first + k) v (deeds_all first (part_all d first v xs)) (slice_index_or xs k None) (slice_index_or (part_all d first v xs) k None)
+unfolding part_all deeds_all
+part_there d first v [] k = record { link = v; deeds = []; rest = []; all = refl; link_is = refl; like = record { contact = refl; accepted_is = refl }; is = refl }
 part_there d first v (x ∷ xs) zero =
-    record { link = v; deeds = []; link_is = refl; like = record { contact = refl; accepted_is = refl }; is = ap (λ b. part_at d b v x) (sym (add-zero first)) }
+    record {
+      link = v;
+      deeds = [];
+      rest = deeds_all first (part_all d first v (x ∷ xs));
+      all = refl;
+      link_is = refl;
+      like = record { contact = refl; accepted_is = refl };
+      is = ap (λ b. part_at d b v x) (sym (add-zero first));
+    }
 part_there d first v (x ∷ xs) (suc k) =
     let changes = changes_at (part_at d first v x) in
     let before = contact_deeds first changes in
@@ -107,6 +118,8 @@ part_there d first v (x ∷ xs) (suc k) =
     record {
       link = later.link;
       deeds = before ++ later.deeds;
+      rest = later.rest;
+      all = ap (λ ds. before ++ ds) later.all ∙ sym (append_assoc before later.deeds later.rest);
       link_is = later.link_is ∙ sym (after_more before later.deeds v);
       like = like_then (node_word (first + suc k)) v w later.link (deeds_like (node_word (first + suc k)) before v (contacts_apart first (first + suc k) changes apart) (contacts_silent first changes))
           (subst (λ j. IsLikeFor (node_word j) w later.link) place later.like);
@@ -122,6 +135,8 @@ bearers_like upkeep.Tick w v = record { contact = refl; accepted_is = refl }
 pub record HasPart (n : NodeState) (d : Upkeep) (b : ℕ) (x : Neighbour) : Type 0 where
   pub link : Casting
   pub deeds : List CastDeed
+  pub rest : List CastDeed
+  pub all : upkeep_deeds d n ≡ deeds ++ rest
   pub link_is : link ≡ after_deeds deeds n.casting
   pub like : IsLikeFor (node_word b) n.casting link
   pub there : slice_index_or (parts_of d n) b None ≡ Some (done d (shown link (node_word b)) x)
@@ -134,6 +149,8 @@ has_part n d b x there =
     record {
       link = p.link;
       deeds = bearer_deeds d ++ p.deeds;
+      rest = p.rest;
+      all = ap (λ ds. bearer_deeds d ++ ds) p.all ∙ sym (append_assoc (bearer_deeds d) p.deeds p.rest);
       link_is = p.link_is ∙ sym (after_more (bearer_deeds d) p.deeds n.casting);
       like = like_then (node_word b) n.casting v p.link (bearers_like d (node_word b) n.casting) (subst (λ j. IsLikeFor (node_word j) v p.link) (zero-add b) p.like);
       there = p.is ∙ ap (λ k. part_at d k p.link (neighbour_of n b)) (zero-add b) ∙ ap (part_at d b p.link) there;

@@ -1,5 +1,5 @@
 -- Each call is a turn of the node.
-use Rattle.std.proofs.Common.{◌≡◌, ◌<◌, ◌^◌, ◌+◌, ℕ, Bool, List, [], ◌∷◌, ◌++◌, append-nil, Option, Some, None, filter, length, map, slice_index_or, refl, sym, ap, subst, ◌∙◌}
+use Rattle.std.proofs.Common.{◌≡◌, ◌<◌, ◌≤◌, ◌^◌, ◌+◌, ℕ, Bool, List, [], ◌∷◌, ◌++◌, append-nil, Option, Some, None, filter, length, map, slice_index_or, refl, sym, ap, subst, ◌∙◌, arith}
 use Rattle.std.specs.List.{All}
 use Rattle.std.proofs.lemmas.List.Elements.{All-append, All-cons, filter-append}
 use Rattle.tipc_types.specs.Address.{node_word}
@@ -31,8 +31,8 @@ use Rattle.tipc_types.specs.declared.link_words.BroadcastState.{BroadcastState}
 use Rattle.tipc_broadcast.specs.Casting.{Casting, shown}
 use Rattle.tipc_broadcast.specs.Deeds.{AreLawful, AreSmall, CastDeed, after_deeds, deeds_frames, is_deed_with, is_hearing_of}
 use Rattle.tipc_broadcast.specs.Pieces.{IsOfBroadcast}
-use Rattle.tipc_broadcast.proofs.Apart.{shown_like}
-use Rattle.tipc_broadcast.proofs.Deeds.{deeds_small}
+use Rattle.tipc_broadcast.proofs.Apart.{deeds_rise, shown_like}
+use Rattle.tipc_broadcast.proofs.Deeds.{after_more, deeds_small}
 use Rattle.tipc_node.specs.Casting.{bearer_deeds, contact_deeds, state_deeds, stated_by}
 use Rattle.tipc_node.specs.Neighbours.{Done, IsOnBearer, casts_after, course_of, done}
 use Rattle.tipc_node.specs.Nodes.{NodeState, after_all, after_one, change_entries, deeds_all, deeds_one, neighbour_of, upkeep_note, entries_all, entries_one, numbered_one, parts_of, states_one, step_of, upkeep_deeds}
@@ -209,11 +209,22 @@ record IsUpkeep (n : NodeState) (d : Upkeep) (p : Plan) : Type 0 where
   pub casting : p.casting ≡ after_deeds (upkeep_deeds d n) n.casting
   pub answer_is : p.answered ≡ answer.Done
 
+-- how many have a number then: no fewer than before, and no more than when all is done
+part_numbered : (n : NodeState) (d : Upkeep) (b : ℕ) (x : Neighbour) (p : HasPart n d b x)
+    → (n.casting.sending.numbered ≤ p.link.sending.numbered) × (p.link.sending.numbered ≤ (after_deeds (upkeep_deeds d n) n.casting).sending.numbered)
+part_numbered n d b x p =
+    let v = n.casting in
+    let before = deeds_rise p.deeds v in
+    let behind = deeds_rise p.rest (after_deeds p.deeds v) in
+    let same = ap (λ (w : Casting). w.sending.numbered) p.link_is in
+    let last = ap (λ ds. (after_deeds ds v).sending.numbered) p.all ∙ ap (λ (w : Casting). w.sending.numbered) (after_more p.deeds p.rest v) in
+    (omega (arith, before, same), omega (arith, behind, same, last))
+
 -- what a STATE shows then
-part_shows : (n : NodeState) (d : Upkeep) (b : ℕ) (x : Neighbour) (p : HasPart n d b x) → Shows n.casting b (opening_of d (shown p.link (node_word b)) x)
+part_shows : (n : NodeState) (d : Upkeep) (b : ℕ) (x : Neighbour) (p : HasPart n d b x) → Shows n.casting (after_deeds (upkeep_deeds d n) n.casting) b (opening_of d (shown p.link (node_word b)) x)
 part_shows n (upkeep.Mend bearer) b x p = tt
 part_shows n (upkeep.Cut bearer) b x p = tt
-part_shows n upkeep.Tick b x p = (number_of (p.link.sending.numbered + 1), shown_like (node_word b) n.casting p.link p.like)
+part_shows n upkeep.Tick b x p = (p.link.sending.numbered, (part_numbered n upkeep.Tick b x p).0, (part_numbered n upkeep.Tick b x p).1, shown_like (node_word b) n.casting p.link p.like)
 
 -- no STATE was taken
 none_stated : (d : Upkeep) (seen : BroadcastState) (x : Neighbour) (given : PairOutcome) → stated_by (opening_of d seen x) given ≡ None
@@ -272,7 +283,7 @@ module _ (n : NodeState) (by : By) (d : Upkeep) (p : Plan) (told : IsTold n) (na
       let stated : state_deeds b (stated_by (opening_of d seen x) nothing_given) ≡ [] = ap (state_deeds b) (none_stated d seen x nothing_given) in
       record {
         told = with_peer b ∙ ap (deeds_one b) part.there ∙ sym (append-nil (contact_deeds b changes)) ∙ ap (λ ds. contact_deeds b changes ++ ds) (sym stated);
-        shows = part_shows n d b x part;
+        shows = subst (λ (w : Casting). Shows n.casting w b (opening_of d seen x)) (sym u.casting) (part_shows n d b x part);
         shows_last = tt;
         accepted = quiet_behind (is_cast_for b) es u.more (u.quiet.uncast b) ∙ all_accept Broadcast b 0 os;
         heard = hears_none (record {

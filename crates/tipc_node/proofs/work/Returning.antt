@@ -1,6 +1,6 @@
 -- What goes back by a fate, and where.
 use Rattle.std.proofs.Common.{◌≡◌, ℕ, ◌-◌, ◌<◌, ◌≤◌, ◌==◌, ◌&&◌, ◌||◌, not, Bool, true, false, List, [], ◌∷◌, ◌++◌, Option, Some, None, Result, Ok, Err, if◌then◌else◌, refl, sym, ap, subst, ◌∙◌, arith, length, take, true≢false}
-use Rattle.std.specs.Prelude.{OnOk, is_some, option_map, nat_le, nat_lt, slice_index_or, unwrap_or}
+use Rattle.std.specs.Prelude.{IfOk, OnOk, is_some, option_map, nat_le, nat_lt, slice_index_or, unwrap_or}
 use Rattle.std.proofs.lemmas.Bool.Decides.{nat_tests}
 use Rattle.std.proofs.lemmas.List.{get_or_past, length-take}
 use Rattle.tipc_types.specs.Address.{IsNodeWord, node_word}
@@ -188,6 +188,10 @@ fate_same s m Dropped = (refl, refl)
 pub on_ok : {T E P Q : Type 0} (r : Result T E) → (P → Q) → OnOk r P → OnOk r Q
 on_ok (Ok x) goes h = goes h
 on_ok (Err e) goes h = tt
+
+pub if_ok : {T E : Type 0} {P Q : T → Type 0} (r : Result T E) → ((x : T) → P x → Q x) → IfOk r P → IfOk r Q
+if_ok (Ok x) goes h = goes x h
+if_ok (Err e) goes h = tt
 
 -- a return to a peer, as the work has it
 pub contact_there : (w : Work) (own : ℕ) (m back : Message) → w.sockets.own ≡ own → back_of (fate_of w true m) ≡ Some back → comes_home (addr_of_word own) back ≡ false

@@ -142,7 +142,7 @@ module _ (old : Stage) (n : ℕ) (m m' : MemberState) (bytes : List ℕ) (s : No
       let brings = opens_brings (kept m.node a).casts (heard_outcome (carried h.packet h.by) k (refusal word h.first set k)) h.given (kept m'.node a).casts opens in
       let l = heard (carried h.packet h.by) k (refusal word h.first set k) in
       let packets = packets_in (opened_in h.given) in
-      let seen = takes_stays v ws word in_it.contact h.first h.second h.by h.packet k l (opened_in h.given) (kept m'.node a).casts (casting a a_is).seen other here in_it.at frame (record { boot = refl; window = refl })
+      let seen = takes_stays v ws word in_it.contact h.first h.second h.by h.packet k l (opened_in h.given) (kept m'.node a).casts (casting a a_is).seen other here in_it.at frame (record { boot = refl; window = refl; shown = refl })
       (subst (λ (b : Joining). BringsAll b (packets_due (heard_outcome (carried h.packet h.by) k (refusal word h.first set k))) (opened_in h.given) (kept m'.node a).casts) (sym looks.begun) brings) in
       let w : MemberView = record (ws word) { heard = Some l; given = given_at in_it.contact packets (ws word).given; begun = (kept m'.node a).casts } in
       let front = fronts_are_cast v (with_view ws word w) seen word x.seen x.contact other (numbers_fit old n a m sound was a_is apart) in

@@ -28,11 +28,11 @@ use Rattle.tipc_replay.specs.Events.{JoinsAt}
 use Rattle.tipc_replay.specs.Met.{contacts_entered}
 use Rattle.tipc_replay.specs.Skies.{AirState, empty_air}
 use Rattle.tipc_replay.specs.Sound.{IsNumber}
-use Rattle.tipc_replay.specs.States.{MemberState, accepted_at, cast_count_at, cast_count_of, casts_noted, contact_at, delivered_at, history_at, member_at, stream_of}
+use Rattle.tipc_replay.specs.States.{MemberState, accepted_at, cast_count_of, casts_noted, contact_at, delivered_at, history_at, member_at, stream_of}
 use Rattle.tipc_replay.proofs.LookUps.{boot_at-is, boot_at-same, either_way, member_at-is}
 use Rattle.tipc_replay.proofs.SoundWorlds.{absent_boot, absent_history, absent_pair, all_same}
-use Rattle.tipc_replay.proofs.casts.CasterLooks.{all_in, among_same, begun_at-is, begun_at-same, cast_count_at-is, casting_at-is, casting_at-same, same_caster}
-use Rattle.tipc_replay.proofs.casts.OwnLaw.{count_noted, count_present}
+use Rattle.tipc_replay.proofs.casts.CasterLooks.{all_in, among_same, begun_at-is, begun_at-same, cast_count_at-is, casting_at-is, casting_at-same, same_caster, count_noted, count_present}
+use Rattle.tipc_replay.proofs.casts.CastCounts.{absent_casts}
 use Rattle.tipc_replay.proofs.casts.OwnRestart.{booted_right}
 use Rattle.tipc_replay.proofs.streams.StreamsEvents.{member_alike}
 
@@ -45,10 +45,6 @@ absent_casting members n none = ap (λ o. unwrap_or (option_map (λ (m : MemberS
 absent_begun : (members : List (Option MemberState)) (n b : ℕ) → slice_index_or members n None ≡ None → casts_begun_at members n b ≡ fresh
 unfolding casts_begun_at member_at
 absent_begun members n b none = ap (λ o. unwrap_or (option_map (λ (m : MemberState). (kept m.node b).casts) o) fresh) none
-
-absent_casts : (members : List (Option MemberState)) (n boot : ℕ) → slice_index_or members n None ≡ None → cast_count_at members n boot ≡ 0
-unfolding cast_count_at member_at
-absent_casts members n boot none = ap (λ o. unwrap_or (option_map (λ (m : MemberState). cast_count_of m boot) o) 0) none
 
 absent_contact : (members : List (Option MemberState)) (n b : ℕ) → slice_index_or members n None ≡ None → contact_at members n b ≡ None
 unfolding contact_at

@@ -64,7 +64,7 @@ cast_taken view w w' word a first second by contact packet v k given own previou
       here = here;
       at = at;
       frame = frame;
-      as_heard = record { boot = refl; window = refl };
+      as_heard = record { boot = refl; window = refl; shown = refl };
       brings = opens_brings w.begun (heard_outcome (carried packet by) k (refusal word first (second % 2 ^ 32) k)) given w'.begun (subst (λ o. OpensTo w.begun o given w'.begun) answer opens);
       stays_at = stays;
       heard_is = after;

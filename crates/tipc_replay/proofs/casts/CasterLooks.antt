@@ -1,5 +1,5 @@
 -- What is looked up of a caster and of its members, in a world where one node has changed: those apart from it stay as they were.
-use Rattle.std.proofs.Common.{◌≡◌, ◌≢◌, ◌==◌, ◌&&◌, ℕ, Bool, false, List, Option, Some, None, if◌then◌else◌, map, sym, ap, ◌∙◌, subst, arith}
+use Rattle.std.proofs.Common.{◌≡◌, ◌≢◌, ◌==◌, ◌&&◌, ℕ, Bool, true, false, List, Option, Some, None, if◌then◌else◌, map, sym, ap, ◌∙◌, subst, arith}
 use Rattle.std.specs.Prelude.{All, option_and_then, option_map, unwrap_or}
 use Rattle.std.specs.List.{Contains}
 use Rattle.std.proofs.lemmas.Bool.Decides.{nat_tests}
@@ -23,7 +23,7 @@ use Rattle.tipc_replay.specs.Air.{Leaves, airborne, number_of_node}
 use Rattle.tipc_replay.specs.Casters.{cast_contact, cast_in, caster_at, casting_at, casts_begun_at, casts_from, heard_contact, heard_of_caster, member_of_caster, state_heard, state_told, told_to_caster}
 use Rattle.tipc_replay.specs.Met.{contacts_entered}
 use Rattle.tipc_replay.specs.Skies.{AirState}
-use Rattle.tipc_replay.specs.States.{MemberState, accepted_at, cast_count_at, cast_count_of, contact_at, delivered_at, member_at, stream_of}
+use Rattle.tipc_replay.specs.States.{MemberState, accepted_at, cast_count_at, cast_count_of, casts_noted, contact_at, delivered_at, member_at, stream_of}
 use Rattle.tipc_replay.proofs.LookUps.{history_at-same, pair_at-is, pair_at-same}
 use Rattle.tipc_replay.proofs.casts.Listing.{listed_still}
 use Rattle.tipc_replay.proofs.pairs.Pairings.{contact_read}
@@ -49,6 +49,15 @@ begun_at-same members members' n b is = ap (λ o. unwrap_or (option_map (λ (x :
 pub cast_count_at-is : (members : List (Option MemberState)) (n boot : ℕ) (m : MemberState) → member_at members n ≡ Some m → cast_count_at members n boot ≡ cast_count_of m boot
 unfolding cast_count_at
 cast_count_at-is members n boot m is = ap (λ o. unwrap_or (option_map (λ (x : MemberState). cast_count_of x boot) o) 0) is
+
+-- it is that of the present boot, or was noted
+pub count_noted : (k : MemberState) (boot : ℕ) → (boot ≡ k.node.boot → ⊥) → cast_count_of k boot ≡ casts_noted k.casts boot
+unfolding cast_count_of
+count_noted k boot other = (let no : (boot == k.node.boot) ≡ false = grind (arith, nat_tests, other) in ap (λ b. if b then k.node.casting.sending.numbered else casts_noted k.casts boot) no)
+
+pub count_present : (k : MemberState) (boot : ℕ) → boot ≡ k.node.boot → cast_count_of k boot ≡ k.node.casting.sending.numbered
+unfolding cast_count_of
+count_present k boot is = (let yes : (boot == k.node.boot) ≡ true = grind (arith, nat_tests, is) in ap (λ b. if b then k.node.casting.sending.numbered else casts_noted k.casts boot) yes)
 
 pub cast_count_at-same : (members members' : List (Option MemberState)) (n boot : ℕ) → member_at members' n ≡ member_at members n → cast_count_at members' n boot ≡ cast_count_at members n boot
 unfolding cast_count_at

@@ -1,7 +1,7 @@
 -- What a turn of a node is to it as a member of another one's broadcast, whatever was heard in it.
 use Rattle.std.specs.Prelude.{filter, option_map}
 use Rattle.std.specs.List.{Contains, flat_map}
-use Rattle.std.proofs.Common.{◌≡◌, ◌≢◌, ◌%◌, ◌^◌, ◌==◌, ◌∙◌, ℕ, Bool, true, if◌then◌else◌, List, [], ◌∷◌, ◌++◌, Option, Some, None, map, refl, sym, ap, subst}
+use Rattle.std.proofs.Common.{◌≡◌, ◌≢◌, ◌≤◌, ◌+◌, ◌%◌, ◌^◌, ◌==◌, ◌∙◌, ℕ, Bool, true, if◌then◌else◌, List, [], ◌∷◌, ◌++◌, Option, Some, None, map, refl, sym, ap, subst, arith}
 use Rattle.tipc_types.specs.Address.{node_word}
 use Rattle.tipc_types.specs.declared.link_words.BroadcastState.{BroadcastState}
 use Rattle.tipc_types.specs.declared.message_forms.Flow.TheVariants.{Broadcast}
@@ -15,8 +15,9 @@ use Rattle.tipc_broadcast.specs.Casting.{Casting, arriving_outcome}
 use Rattle.tipc_broadcast.specs.Contacts.{contact_with}
 use Rattle.tipc_broadcast.specs.Deeds.{CastDeed, after_deeds, is_deed_with}
 use Rattle.tipc_casters.specs.MemberTurns.{HappensTo}
-use Rattle.tipc_casters.specs.Sights.{contact_of}
+use Rattle.tipc_casters.specs.Sights.{boot_in, contact_of}
 use Rattle.tipc_casters.specs.ViewLaws.{given_at}
+use Rattle.tipc_contact.specs.Sides.{boot_of}
 use Rattle.tipc_casters.specs.Views.{AreContactNumbers, CasterView}
 use Rattle.tipc_casters.proofs.Consistent.{kept_in}
 use Rattle.tipc_casters.proofs.Kept.{DeedsKeep}
@@ -33,15 +34,15 @@ use Rattle.tipc_node.specs.Messages.{bytes_of}
 use Rattle.tipc_node.specs.Nodes.{kept, pair_with, shown_contact}
 use Rattle.tipc_node.specs.Turns.HearsCasts.{hears_none, hears_one}
 use Rattle.tipc_node.specs.Turns.{HearsCasts, HearsNone, HearsOne, IsBrought, IsFrom, PeerTurn, delivered_of, given_entries, is_cast_from}
-use Rattle.tipc_replay.specs.Casters.{caster_at, heard_contact, members_of}
+use Rattle.tipc_replay.specs.Casters.{cast_contact, caster_at, heard_contact, members_of}
 use Rattle.tipc_replay.specs.Castings.{AreCasting}
 use Rattle.tipc_replay.specs.Sound.{IsNumber}
-use Rattle.tipc_replay.specs.States.{MemberState}
+use Rattle.tipc_replay.specs.States.{MemberState, cast_count_at}
 use Rattle.tipc_replay.specs.Steps.{Stage}
 use Rattle.tipc_replay.proofs.casts.CastAgain.{contacts_test, told_again}
 use Rattle.tipc_replay.proofs.casts.CastGiven.{casts_brought, contact_shown, frame as frame_heard, missed, named, numbers_fit}
 use Rattle.tipc_replay.proofs.casts.CastTaken.{cast_missed, cast_taken}
-use Rattle.tipc_replay.proofs.casts.MemberKnown.{given_still, given_then, known, looks, looks_then, other}
+use Rattle.tipc_replay.proofs.casts.MemberKnown.{given_still, given_then, known, looks, looks_then, other, own_fits}
 use Rattle.tipc_replay.proofs.casts.MemberTurn.{between_same, between_some, heard_happens, unheard_happens}
 use Rattle.tipc_replay.proofs.casts.StatesDue.{heard_there, state_heard_of}
 use Rattle.tipc_replay.proofs.casts.SteadyTurns.{SteadyTurn}
@@ -100,6 +101,25 @@ module _ {old new : Stage} {n : ℕ} {m m' : MemberState} {bytes : List ℕ} {s 
   stated_came (mends bearer) seen is stated = absurd (let wrong : None ≡ Some seen = stated in let no : ⊥ = cc in no)
   stated_came (cuts bearer) seen is stated = absurd (let wrong : None ≡ Some seen = stated in let no : ⊥ = cc in no)
 
+  -- in a contact of this boot of the caster
+  boot_told : (z : PairEnds) (seen : BroadcastState) (came : StateCame old n a z seen) → z.contact ≡ y.contact → boot_of came.frame.contact.0 ≡ boot_in (cast_contact came.frame.contact)
+  boot_told z seen came same =
+      let fits = own_fits h casting a a_is apart in
+      let own = came.own in
+      omega (arith, fits, own, same)
+
+  -- isn't too old
+  since : (z : PairEnds) (seen : BroadcastState) (came : StateCame old n a z seen) → z.contact ≡ y.contact → v.numbered (boot_in (heard_there old n a z seen came).contact) ≤ (heard_there old n a z seen came).stamp + 30000
+  unfolding caster_at
+  since z seen came same = subst (λ k. cast_count_at old.members a k ≤ came.frame.casts + 30000) (boot_told z seen came same) came.since
+
+  -- and tells of no more than the caster has used
+  by_now : (z : PairEnds) (seen : BroadcastState) (came : StateCame old n a z seen) → z.contact ≡ y.contact → (heard_there old n a z seen came).stamp ≤ v.numbered (boot_in (heard_there old n a z seen came).contact)
+  unfolding caster_at
+  by_now z seen came same =
+      let counted = h.aged.counted came.bearer came.place came.frame came.there a n a_is (number_here h) apart came.from came.to_is in
+      subst (λ k. came.frame.casts ≤ cast_count_at old.members a k) (boot_told z seen came same) counted.1
+
   none_heard : HearsNone m.node m'.node s h.turn.turn.deeds a (h.turn.turn.turns a).turn.first.course.changes → Happens
   none_heard none = by (stated_by p.opening p.turn.first.given) refl keeps
     where
@@ -132,7 +152,7 @@ module _ {old new : Stage} {n : ℕ} {m m' : MemberState} {bytes : List ℕ} {s 
           let at : (members_of new.members new.air a word).at ≡ Some t.contact =
           (looks_then h casting a a_is apart).at ∙ ap (option_map heard_contact) (between_some y there) ∙ (λ i. Some (heard_contact (all.contact i, all.seen i))) ∙ ap Some (sym from.1) in
           heard_happens v (members_of old.members old.air a word) (members_of new.members new.air a word) word m.node.casting.own a x y story seen t (known h casting a a_is apart none) ks
-          (subst (λ ts. Contains ts t) (sym (looks h casting a a_is apart).hears) from.0) refl at
+          (subst (λ ts. Contains ts t) (sym (looks h casting a a_is apart).hears) from.0) (by_now p.turn.first.course.pair seen came (sym all.contact)) (since p.turn.first.course.pair seen came (sym all.contact)) refl at
 
   -- ---- a broadcast packet was heard
 

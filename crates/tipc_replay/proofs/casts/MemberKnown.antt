@@ -104,6 +104,15 @@ module _ {old new : Stage} {n : ℕ} {m m' : MemberState} {bytes : List ℕ} {s 
       (subst (λ (t : Story). Contains ((ws word).entered ++ map heard_contact (numbers_begun t)) (heard_contact numbers)) (sym is)
       (Contains-append_right (ws word).entered (heard_contact numbers ∷ []) (heard_contact numbers) (one_in (heard_contact numbers))))
 
+  -- the node's own number fits
+  pub own_fits : y.contact < 2 ^ 64
+  own_fits =
+      let node = seen_node (sight_in new n a) (sight_in old a n) (met_after h a a_is apart).seen in
+      let contact = contact_after h a in
+      let of_boot = node.contact in
+      let fits = node.boot in
+      omega (arith, contact, of_boot, fits)
+
   -- a contact that begins may be entered
   enters : (numbers : ℕ × ℕ) → Means x y (began numbers) → MayEnter v (ws word) word (heard_contact numbers) × (numbers.0 < 2 ^ 64)
   enters numbers began_so =

@@ -55,17 +55,17 @@ with_next next was start (Some c) = by c.window
     by (Some r) = refl
 
 -- what is shown at first is what the broadcast link has for the peer
-first_shows : (v : Casting) (a : ℕ) (opening : Opening) (seen : BroadcastState) → Shows v a opening → IsFirst opening seen → (next : ℕ) × (start : ℕ) × (seen ≡ shown_to next start (contact_with (node_word a) v.contacts))
-first_shows v a (ticks given) seen shows first = (
-  shows.0,
+first_shows : (v w : Casting) (a : ℕ) (opening : Opening) (seen : BroadcastState) → Shows v w a opening → IsFirst opening seen → (next : ℕ) × (start : ℕ) × (seen ≡ shown_to next start (contact_with (node_word a) v.contacts))
+first_shows v w a (ticks given) seen shows first = (
+  number_of (shows.0 + 1),
   number_of (next_start v),
-  first ∙ shows.1 ∙ with_next shows.0 (number_of (v.sending.numbered + 1)) (number_of (next_start v)) (contact_with (node_word a) v.contacts),
+  first ∙ shows.3 ∙ with_next (number_of (shows.0 + 1)) (number_of (v.sending.numbered + 1)) (number_of (next_start v)) (contact_with (node_word a) v.contacts),
 )
-first_shows v a (hears bearer es er p by given) seen shows first = (number_of (v.sending.numbered + 1), number_of (next_start v), first ∙ shows)
-first_shows v a rests seen shows first = absurd first
-first_shows v a (makes bearer is_mended) seen shows first = absurd first
-first_shows v a (mends bearer) seen shows first = absurd first
-first_shows v a (cuts bearer) seen shows first = absurd first
+first_shows v w a (hears bearer es er p by given) seen shows first = (number_of (v.sending.numbered + 1), number_of (next_start v), first ∙ shows)
+first_shows v w a rests seen shows first = absurd first
+first_shows v w a (makes bearer is_mended) seen shows first = absurd first
+first_shows v w a (mends bearer) seen shows first = absurd first
+first_shows v w a (cuts bearer) seen shows first = absurd first
 
 -- ---- a STATE to the caster
 
@@ -144,7 +144,7 @@ module _ {old new : Stage} {n : ℕ} {m m' : MemberState} {bytes : List ℕ} {s 
           → t.seen ≡ shown_by (h.turn.turn.turns a).opening (h.turn.turn.turns a).reply (in_contact (pair_with m'.node a)) z → Says t
       by contact stamp (at_first seen first) is =
           let w = looks h casting a a_is apart in
-          let shows = first_shows m.node.casting a (h.turn.turn.turns a).opening seen (h.turn.turn.casts a).shows first in
+          let shows = first_shows m.node.casting m'.node.casting a (h.turn.turn.turns a).opening seen (h.turn.turn.casts a).shows first in
           inl (says_before v (members_of old.members old.air a word) t (pair_with m.node a) (pair_with m'.node a) shows.0 shows.1 w.at
           (λ k heard. (let in_it = kept_in v (members_of old.members old.air a) word k (casting a a_is).seen (other h casting a a_is apart) heard in (in_it.contact, in_it.at)))
           contact stamp (is ∙ shows.2 ∙ ap (shown_to shows.0 shows.1) (sym w.heard)))

@@ -1,7 +1,7 @@
 -- What a turn of a node is to it as a member of another node's broadcast, where no broadcast packet of that node was heard in it.
 use Rattle.std.specs.Prelude.{option_map}
 use Rattle.std.specs.List.{Contains}
-use Rattle.std.proofs.Common.{◌≡◌, ◌<◌, ◌^◌, ◌∙◌, ℕ, Bool, true, false, if◌then◌else◌, [], ◌∷◌, ◌++◌, Option, Some, None, refl, sym, ap, subst, arith}
+use Rattle.std.proofs.Common.{◌≡◌, ◌<◌, ◌≤◌, ◌+◌, ◌^◌, ◌∙◌, ℕ, Bool, true, false, if◌then◌else◌, [], ◌∷◌, ◌++◌, Option, Some, None, refl, sym, ap, subst, arith}
 use Rattle.tipc_types.specs.Address.{node_word}
 use Rattle.tipc_types.specs.declared.link_words.BroadcastState.{BroadcastState}
 use Rattle.tipc_broadcast.specs.declared.contacts.Contact.{Contact}
@@ -85,10 +85,13 @@ unheard_happens v w w' word own a x y (ended numbers states shown) k keeps =
 
 -- ---- with one that the caster told in the present contact
 
-learned : (w w' : MemberView) (c : Option ℕ) (k l : Contact) (t : Told) (seen : BroadcastState) → Contains w.hears t → t.seen ≡ seen → c ≡ Some t.contact → w'.heard ≡ Some l → IsKeptAs (told_by seen.start seen.next k) l → LearnsOf w w' c k
-learned w w' c k l t seen there same contact heard kept = record {
+learned : (v : CasterView) (w w' : MemberView) (c : Option ℕ) (k l : Contact) (t : Told) (seen : BroadcastState) → Contains w.hears t → t.stamp ≤ v.numbered (boot_in t.contact) → v.numbered (boot_in t.contact) ≤ t.stamp + 30000 → t.seen ≡ seen → c ≡ Some t.contact → w'.heard ≡ Some l
+    → IsKeptAs (told_by seen.start seen.next k) l → LearnsOf v w w' c k
+learned v w w' c k l t seen there by_now recent same contact heard kept = record {
   state = t;
   there = there;
+  by_now = by_now;
+  recent = recent;
   contact = contact;
   kept = l;
   heard_is = heard;
@@ -96,18 +99,18 @@ learned w w' c k l t seen there same contact heard kept = record {
 }
 
 pub heard_happens : (v : CasterView) (w w' : MemberView) (word own a : ℕ) (x y : PairEnds) (story : Story) (seen : BroadcastState) (t : Told) → Known v w w' word x y story
-    → DeedsKeep own (node_word a) (story_deeds a story ++ CastDeed.states (node_word a) seen ∷ []) w.heard w'.heard → Contains w.hears t → t.seen ≡ seen → w'.at ≡ Some t.contact → HappensTo v w w' word
-heard_happens v w w' word own a x y stays seen t k keeps there same at =
+    → DeedsKeep own (node_word a) (story_deeds a story ++ CastDeed.states (node_word a) seen ∷ []) w.heard w'.heard → Contains w.hears t → t.stamp ≤ v.numbered (boot_in t.contact) → v.numbered (boot_in t.contact) ≤ t.stamp + 30000 → t.seen ≡ seen → w'.at ≡ Some t.contact → HappensTo v w w' word
+heard_happens v w w' word own a x y stays seen t k keeps there by_now recent same at =
     let lasts = lasting v w w' word x y k in
     let was : w.at ≡ Some t.contact = sym lasts.at ∙ at in
     let c = k.kept t.contact was in
     let l = kept_once own (node_word a) (CastDeed.states (node_word a) seen) w.heard w'.heard keeps c.0 c.1 in
-    learns c.0 lasts c.1 (learned w w' w.at c.0 l.0 t seen there same was l.1 l.2)
-heard_happens v w w' word own a x y (began numbers) seen t k keeps there same at =
+    learns c.0 lasts c.1 (learned v w w' w.at c.0 l.0 t seen there by_now recent same was l.1 l.2)
+heard_happens v w w' word own a x y (began numbers) seen t k keeps there by_now recent same at =
     let both = kept_twice own (node_word a) (CastDeed.joins (node_word a) (boot_of_contact numbers.1)) (CastDeed.states (node_word a) seen) w.heard w'.heard keeps in
     let joins = both.1 (k.none (was_out v w w' word x y numbers k)) in
     let c = joined (node_word a) (boot_of_contact numbers.1) joins.0 in
     let l = both.2 c joins.1 in
-    enters_told (heard_contact numbers) c (anew v w w' word a joins.0 x y numbers k) (learned w w' w'.at c l.0 t seen there same at l.1 l.2)
-heard_happens v w w' word own a x y (ended numbers states shown) seen t k keeps there same at =
+    enters_told (heard_contact numbers) c (anew v w w' word a joins.0 x y numbers k) (learned v w w' w'.at c l.0 t seen there by_now recent same at l.1 l.2)
+heard_happens v w w' word own a x y (ended numbers states shown) seen t k keeps there by_now recent same at =
     absurd (let wrong : None ≡ Some t.contact = sym (is_out v w w' word x y (ended numbers states shown) k k.means.2) ∙ at in let no : ⊥ = cc in no)

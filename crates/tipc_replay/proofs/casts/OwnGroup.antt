@@ -1,7 +1,7 @@
 -- A node that took a turn stays a caster, and every other node its member.
 use Rattle.std.specs.Prelude.{All, ◌%◌, filter, map, option_map, slice_get}
 use Rattle.std.specs.List.{Contains, list_all}
-use Rattle.std.proofs.Common.{◌≡◌, ◌≢◌, ◌⊎◌, ◌≤◌, ◌^◌, ◌∙◌, ℕ, Bool, true, List, [], ◌∷◌, ◌++◌, Option, Some, None, refl, sym, ap, subst, inl, inr, append_assoc, arith}
+use Rattle.std.proofs.Common.{◌≡◌, ◌≢◌, ◌⊎◌, ◌≤◌, ◌^◌, ◌∙◌, ℕ, Bool, true, List, [], ◌∷◌, ◌++◌, Option, Some, None, refl, sym, ap, subst, inl, inr, length, append_assoc, arith}
 use Rattle.std.proofs.lemmas.Bool.{cases_eq, cases_lt}
 use Rattle.std.proofs.lemmas.List.Elements.{All-append, All-cons, All-contains_itself, All-head, All-nil, All-tail, All-weaker, Contains-append_cases, Contains-append_left, Contains-append_right}
 use Rattle.tipc_types.specs.Address.{node_word}
@@ -171,6 +171,10 @@ module _ {old new : Stage} {n : ℕ} {m m' : MemberState} {bytes : List ℕ} {s 
   member_is : (word : ℕ) → IsOther v word → IsMemberWord n word
   member_is word other = member_word v n word own_is other
 
+  -- few packets waited
+  few : length m.node.casting.sending.waiting ≤ 246
+  few = subst (λ (k : Casting). length k.sending.waiting ≤ 246) (c.seen.caster.casting ∙ casting_before h) c.seen.cast.caster.casting.few
+
   -- ---- the cases of what it did
 
   -- members that are seen so, whatever they hear
@@ -266,7 +270,7 @@ module _ {old new : Stage} {n : ℕ} {m m' : MemberState} {bytes : List ℕ} {s 
   told_parts : (word : ℕ) → IsOther v word → InThree (TellsTo v word) (TellsTo v' word) (heard_of_caster old.air n (number_of_node word)) (heard_of_caster new.air n (number_of_node word))
   told_parts word other =
       let k = member_is word other in
-      in_three (TellsTo v word) (TellsTo v' word) (heard_of_caster old.air n (number_of_node word)) (heard_of_caster new.air n (number_of_node word)) (told_so h word k.number k.apart k.word_is)
+      in_three (TellsTo v word) (TellsTo v' word) (heard_of_caster old.air n (number_of_node word)) (heard_of_caster new.air n (number_of_node word)) (told_so h word k.number k.apart k.word_is few)
 
   abbrev told_first : ℕ → List Told
   told_first word = first_part (other_or_not v word) (told_parts word)

@@ -32,7 +32,7 @@ use Rattle.tipc_replay.specs.Steps.{Stage}
 use Rattle.tipc_replay.proofs.LookUps.{boot_at-is, history_at-is}
 use Rattle.tipc_replay.proofs.casts.Beside.{cast_parts, contains_passing}
 use Rattle.tipc_replay.proofs.casts.CastStreams.{cast_adds, cast_then}
-use Rattle.tipc_replay.proofs.casts.CasterLooks.{cast_count_at-is, casting_at-is}
+use Rattle.tipc_replay.proofs.casts.CasterLooks.{cast_count_at-is, casting_at-is, count_noted, count_present}
 use Rattle.tipc_replay.proofs.casts.CasterTurn.{joined_in}
 use Rattle.tipc_replay.proofs.casts.Listing.{IsListed, listed_after}
 use Rattle.tipc_replay.proofs.casts.MetStories.{numbers_begun, step_enters, turn_begins}
@@ -44,16 +44,6 @@ use Rattle.tipc_replay.proofs.casts.TurnFacts.{is_here, means_at, number_before,
 use Rattle.tipc_replay.proofs.pairs.PairedTurns.{turn_history}
 use Rattle.tipc_replay.proofs.pairs.Standing.{seen_node}
 use Rattle.tipc_replay.proofs.pairs.Turning.{sight_in}
-
--- ---- how many numbers the broadcast link used in a boot
-
-pub count_noted : (k : MemberState) (boot : ℕ) → (boot ≡ k.node.boot → ⊥) → cast_count_of k boot ≡ casts_noted k.casts boot
-unfolding cast_count_of
-count_noted k boot other = (let no : (boot == k.node.boot) ≡ false = grind (arith, nat_tests, other) in ap (λ b. if b then k.node.casting.sending.numbered else casts_noted k.casts boot) no)
-
-pub count_present : (k : MemberState) (boot : ℕ) → boot ≡ k.node.boot → cast_count_of k boot ≡ k.node.casting.sending.numbered
-unfolding cast_count_of
-count_present k boot is = (let yes : (boot == k.node.boot) ≡ true = grind (arith, nat_tests, is) in ap (λ b. if b then k.node.casting.sending.numbered else casts_noted k.casts boot) yes)
 
 -- what stood in a list stands in a longer one
 pub longer_has : {A B : Type 0} (f : A → B) (xs ys more : List A) → ys ≡ xs ++ more → All (Contains (map f ys)) (map f xs)

@@ -1,12 +1,8 @@
 -- A node that is restarted stays a caster, in its next boot.
-use Rattle.std.specs.Prelude.{nat_eq, option_map, slice_get, take, unwrap_or}
-use Rattle.std.specs.Map.{lookup}
-use Rattle.std.proofs.Common.{◌≡◌, ◌≢◌, ◌<◌, ◌+◌, ◌^◌, ◌==◌, ◌∙◌, ℕ, Bool, true, false, if◌then◌else◌, List, [], ◌∷◌, Option, Some, None, map, refl, sym, ap, subst, inl, inr, eqb-true, arith}
-use Rattle.std.proofs.lemmas.Bool.{cases_eq}
-use Rattle.std.proofs.lemmas.Bool.Decides.{nat_tests}
+use Rattle.std.specs.Prelude.{option_map, slice_get, take}
+use Rattle.std.proofs.Common.{◌≡◌, ◌<◌, ◌+◌, ◌^◌, ◌==◌, ◌∙◌, ℕ, Bool, if◌then◌else◌, List, [], Option, Some, None, map, sym, ap, subst, arith}
 use Rattle.std.proofs.lemmas.List.Elements.{All-nil}
 use Rattle.std.proofs.Math.Seq.{take-nil}
-use Rattle.indexmap.specs.IndexMap.{insert_entry}
 use Rattle.tipc_types.specs.Address.{node_word}
 use Rattle.tipc_types.specs.declared.message_forms.Flow.TheVariants.{Broadcast}
 use Rattle.tipc_outside.specs.declared.outgoing.Outgoing.{Outgoing}
@@ -30,39 +26,15 @@ use Rattle.tipc_replay.specs.Members.{IsRestarted}
 use Rattle.tipc_replay.specs.Met.{contacts_entered}
 use Rattle.tipc_replay.specs.Skies.{AirState}
 use Rattle.tipc_replay.specs.Sound.{IsNumber, IsSound}
-use Rattle.tipc_replay.specs.States.{MemberState, accepted_at, cast_count_of, casts_noted, contact_at, history_at, member_at, stream_of}
+use Rattle.tipc_replay.specs.States.{MemberState, accepted_at, cast_count_of, contact_at, history_at, member_at, stream_of}
 use Rattle.tipc_replay.specs.Steps.{Stage, Turns}
 use Rattle.tipc_replay.proofs.LookUps.{boot_at-is, history_at-is}
 use Rattle.tipc_replay.proofs.casts.CasterLooks.{all_in, among_same, cast_count_at-is, casting_at-is, contact_at-is, delivered_at-same, same_member}
+use Rattle.tipc_replay.proofs.casts.CastCounts.{count_then}
 use Rattle.tipc_replay.proofs.casts.OwnGroup.{member_word}
-use Rattle.tipc_replay.proofs.casts.OwnLaw.{count_noted, count_present}
 use Rattle.tipc_replay.proofs.frames.Released.{came, with_none}
 use Rattle.tipc_replay.proofs.pairs.Turning.{is_there, others_stay, was_there}
 use Rattle.tipc_replay.proofs.streams.Histories.{history_restarted}
-
--- ---- how many numbers are noted of a boot
-
-noted_here : (casts : List (ℕ × ℕ)) (boot count : ℕ) → casts_noted (insert_entry nat_eq casts boot count) boot ≡ count
-unfolding casts_noted
-noted_here [] boot count = (let itself : (boot == boot) ≡ true = grind (arith, nat_tests) in ap (λ b. unwrap_or (if b then Some count else None) 0) itself)
-noted_here (e ∷ es) boot count = by (boot == e.0) refl (noted_here es boot count)
-  where
-    by : (b : Bool) → (boot == e.0) ≡ b → unwrap_or (lookup (nat_eq boot) (insert_entry nat_eq es boot count)) 0 ≡ count
-        → unwrap_or (lookup (nat_eq boot) (if b then (e.0, count) ∷ es else e ∷ insert_entry nat_eq es boot count)) 0 ≡ count
-    by true is later = rw is refl
-    by false is later = rw is later
-
-noted_apart : (casts : List (ℕ × ℕ)) (boot count other : ℕ) → other ≢ boot → casts_noted (insert_entry nat_eq casts boot count) other ≡ casts_noted casts other
-unfolding casts_noted
-noted_apart [] boot count other apart = (let no : (other == boot) ≡ false = grind (arith, nat_tests, apart) in ap (λ b. unwrap_or (if b then Some count else None) 0) no)
-noted_apart (e ∷ es) boot count other apart = by (boot == e.0) refl (other == e.0) refl (noted_apart es boot count other apart)
-  where
-    by : (b : Bool) → (boot == e.0) ≡ b → (d : Bool) → (other == e.0) ≡ d → unwrap_or (lookup (nat_eq other) (insert_entry nat_eq es boot count)) 0 ≡ unwrap_or (lookup (nat_eq other) es) 0
-        → unwrap_or (lookup (nat_eq other) (if b then (e.0, count) ∷ es else e ∷ insert_entry nat_eq es boot count)) 0 ≡ unwrap_or (lookup (nat_eq other) (e ∷ es)) 0
-    by true is true at later = absurd (let one : boot ≡ e.0 = eqb-true boot e.0 is in let two : other ≡ e.0 = eqb-true other e.0 at in apart (two ∙ sym one))
-    by true is false at later = rw at refl
-    by false is true at later = rw at refl
-    by false is false at later = rw at later
 
 -- ---- a new broadcast link
 
@@ -95,24 +67,6 @@ air_still : (old new : AirState) (met : ℕ → Option (ℕ × ℕ)) (members : 
 air_still old new met members a frames lost l none =
     let front = came old new met members a frames lost l in
     front.1 ∙ ap (λ fs. with_leaving old met members a (take front.0 fs)) none ∙ ap (with_leaving old met members a) (take-nil front.0) ∙ with_none old met members a
-
-count_then : (before after : MemberState) (boot : ℕ) → IsRestarted before after → cast_count_of after boot ≡ put (before.node.boot + 1) 0 (cast_count_of before) boot
-count_then before after boot r = elim (cases_eq boot (before.node.boot + 1)) [
-  | inl same ↦
-      let here : (boot == before.node.boot + 1) ≡ true = grind (arith, nat_tests, same) in
-      count_present after boot (same ∙ sym r.node.boot_is) ∙ ap (λ (v : Casting). v.sending.numbered) r.node.casting ∙ ap (λ b. if b then 0 else cast_count_of before boot) (sym here)
-  | inr apart ↦
-      let there : (boot == before.node.boot + 1) ≡ false = grind (arith, nat_tests, apart) in
-      count_noted after boot (λ is. apart (is ∙ r.node.boot_is)) ∙ ap (λ cs. casts_noted cs boot) r.casts ∙ noted ∙ ap (λ b. if b then 0 else cast_count_of before boot) (sym there)
-]
-  where
-    noted : casts_noted (insert_entry nat_eq before.casts before.node.boot before.node.casting.sending.numbered) boot ≡ cast_count_of before boot
-    noted = elim (cases_eq boot before.node.boot) [
-      | inl same ↦
-          ap (casts_noted (insert_entry nat_eq before.casts before.node.boot before.node.casting.sending.numbered)) same ∙ noted_here before.casts before.node.boot before.node.casting.sending.numbered
-          ∙ sym (count_present before boot same)
-      | inr apart ↦ noted_apart before.casts before.node.boot before.node.casting.sending.numbered boot apart ∙ sym (count_noted before boot apart)
-    ]
 
 -- the caster in its next boot, as the law has it
 abbrev again_at : CasterView → CasterView

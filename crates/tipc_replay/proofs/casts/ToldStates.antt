@@ -1,12 +1,13 @@
 -- What a STATE tells that leaves in a turn: a member says to the caster what it has, and the caster tells a member the start that it has for it, before the
 -- turn or after it.
 use Rattle.std.specs.Prelude.{option_map}
-use Rattle.std.proofs.Common.{◌≡◌, ◌∙◌, ℕ, Bool, true, false, if◌then◌else◌, Option, Some, None, refl, sym, ap}
+use Rattle.std.proofs.Common.{◌≡◌, ◌≤◌, ◌+◌, ◌∙◌, ℕ, Bool, true, false, if◌then◌else◌, Option, Some, None, refl, sym, ap}
 use Rattle.tipc_types.specs.Position.{number_of}
 use Rattle.tipc_types.specs.declared.link_words.BroadcastState.{BroadcastState}
 use Rattle.tipc_broadcast.specs.declared.contacts.Contact.{Contact}
 use Rattle.tipc_broadcast.specs.Casting.{shown}
 use Rattle.tipc_broadcast.specs.Contacts.{shown_to}
+use Rattle.tipc_broadcast_law.specs.Groups.{queue}
 use Rattle.tipc_casters.specs.Sights.{Told}
 use Rattle.tipc_casters.specs.ViewLaws.{SaysTo, TellsTo, says_apart, says_there}
 use Rattle.tipc_casters.specs.Views.{CasterView, MemberView}
@@ -60,15 +61,34 @@ says_after v w' t x y story next start means there at contact stamp is = says v 
 
 -- ---- the caster
 
-pub tells_before : (v : CasterView) (m : ℕ) (t : Told) (x y : PairEnds) → v.joined m ≡ option_map cast_contact (contact_between x) → in_contact x ≡ true → t.contact ≡ cast_contact (told_numbers x y) → t.seen.start ≡ (shown v.casting m).start → TellsTo v m t
-tells_before v m t x y joined there contact start = record {
+-- The next number that was told, in a turn before or after which the caster stands so: how many had a number when it was told, and when all was done.
+pub record TellsNext (v : CasterView) (t : Told) : Type 0 where
+  pub numbered : ℕ
+  pub next : t.seen.next ≡ number_of (numbered + 1)
+  pub by_then : numbered ≤ t.stamp
+  pub stamped : t.stamp ≤ numbered + queue
+  pub near : t.stamp ≤ v.casting.sending.numbered + queue
+
+pub tells_before : (v : CasterView) (m : ℕ) (t : Told) (x y : PairEnds) → v.joined m ≡ option_map cast_contact (contact_between x) → in_contact x ≡ true → t.contact ≡ cast_contact (told_numbers x y) → t.seen.start ≡ (shown v.casting m).start → TellsNext v t
+    → TellsTo v m t
+tells_before v m t x y joined there contact start told = record {
   contact = joined ∙ ap (option_map cast_contact) (between_some x there) ∙ ap (λ n. Some (cast_contact n)) (sym (told_before x y there)) ∙ ap Some (sym contact);
   start = start;
+  numbered = told.numbered;
+  next = told.next;
+  by_then = told.by_then;
+  stamped = told.stamped;
+  near = told.near;
 }
 
 pub tells_after : (v' : CasterView) (m : ℕ) (t : Told) (x y : PairEnds) (story : Story) → Means x y story → v'.joined m ≡ option_map cast_contact (contact_between y) → in_contact y ≡ true → t.contact ≡ cast_contact (told_numbers x y)
-    → t.seen.start ≡ (shown v'.casting m).start → TellsTo v' m t
-tells_after v' m t x y story means joined there contact start = record {
+    → t.seen.start ≡ (shown v'.casting m).start → TellsNext v' t → TellsTo v' m t
+tells_after v' m t x y story means joined there contact start told = record {
   contact = joined ∙ ap (option_map cast_contact) (between_some y there) ∙ ap (λ n. Some (cast_contact n)) (sym (told_after x y story means there)) ∙ ap Some (sym contact);
   start = start;
+  numbered = told.numbered;
+  next = told.next;
+  by_then = told.by_then;
+  stamped = told.stamped;
+  near = told.near;
 }

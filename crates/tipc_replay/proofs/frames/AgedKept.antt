@@ -12,7 +12,7 @@ use Rattle.tipc_two_nodes.specs.Sights.{Sight, pair_seen, told_in}
 use Rattle.tipc_two_nodes.proofs.sights.Ordered.{seen_no_higher}
 use Rattle.tipc_replay.specs.declared.events.WorldEvent.{WorldEvent}
 use Rattle.tipc_replay.specs.declared.events.WorldEvent.TheVariants.{Arrive, Call, Restart}
-use Rattle.tipc_replay.specs.Aged.{AreAged, IsAged}
+use Rattle.tipc_replay.specs.Aged.{AreAged, IsAged, HasCastsCounted}
 use Rattle.tipc_replay.specs.Air.{airborne, receiver_of}
 use Rattle.tipc_replay.specs.Calls.{node_of}
 use Rattle.tipc_replay.specs.Due.{unarrived}
@@ -23,9 +23,9 @@ use Rattle.tipc_replay.specs.Skies.{AirState, air_on, empty_air}
 use Rattle.tipc_replay.specs.Sound.{IsNumber, IsSound}
 use Rattle.tipc_replay.specs.States.{MemberState, boot_at, contact_at, member_at, numbers_at, pair_at}
 use Rattle.tipc_replay.specs.Steps.{Becomes, Happens, Stage, Turns}
-use Rattle.tipc_replay.specs.Views.{sight_at}
 use Rattle.tipc_replay.proofs.LookUps.{boot_at-is, boot_at-same, member_at-is, place_within}
 use Rattle.tipc_replay.proofs.SoundWorlds.{absent_boot}
+use Rattle.tipc_replay.proofs.casts.CastCounts.{come_counted, counts_rise, joined_counts, own_boot, stays_counted}
 use Rattle.tipc_replay.proofs.frames.Emissions.{receiver_is}
 use Rattle.tipc_replay.proofs.frames.Routes.{air_comes}
 use Rattle.tipc_replay.proofs.pairs.PairedEvents.{made_turn, met_turn}
@@ -34,10 +34,6 @@ use Rattle.tipc_replay.proofs.pairs.Standing.{seen_node}
 use Rattle.tipc_replay.proofs.pairs.Turning.{is_there, others_stay, sight_in, was_there}
 
 -- ---- the number that a node has seen of another
-
-own_boot : (s : Stage) (a b : ℕ) → (sight_in s a b).node.boot ≡ boot_at s.members a
-unfolding sight_at
-own_boot s a b = refl
 
 -- it is of no later boot than the other's present one
 seen_boot : (s : Stage) (a b : ℕ) → IsSound s.members s.air → IsNumber a → IsNumber b → b ≢ a → boot_of (sight_in s a b).node.seen ≤ boot_at s.members b
@@ -118,6 +114,8 @@ happens_aged old new by event bytes answered lost sound sound' h all =
       frames = λ bearer. air_comes (IsAged new.members) met new.members old.air new.air n h.frames lost t.leaves
           (all_new (λ o. IsAged new.members (airborne met new.members n o)) (new_aged old new n h.before h.after h.frames lost sound sound' t) h.frames)
           (λ k i f there b b_is is. (let was = all.frames k i f there b b_is is in let low = was.1 in let up = rise b in (was.0, omega (arith, low, up)))) bearer;
+      counted = λ bearer. air_comes (HasCastsCounted new.members) met new.members old.air new.air n h.frames lost t.leaves (come_counted old new by event bytes answered lost sound sound' h)
+          (λ k i f there. stays_counted old.members new.members f rise (counts_rise old new by event bytes answered lost h) (all.counted k i f there)) bearer;
       begun = λ k m there. elim (cases_eq k n) [
         | inl same ↦
             let here : slice_index_or (slice_set old.members n (Some h.after)) n None ≡ Some h.after = get_or-set_same old.members n (Some h.after) None (place_within old.members n h.before t.was) in
@@ -151,6 +149,7 @@ empty_on bearer = by (bearer == 0) (bearer == 1)
 pub start_aged : AreAged [] empty_air
 start_aged = record {
   frames = λ bearer k f there. absurd (let none : None ≡ Some f = ap (λ fs. slice_get fs k) (sym (empty_on bearer)) ∙ there in let wrong : ⊥ = cc in wrong);
+  counted = λ bearer k f there. absurd (let none : None ≡ Some f = ap (λ fs. slice_get fs k) (sym (empty_on bearer)) ∙ there in let wrong : ⊥ = cc in wrong);
   begun = λ n m there. absurd cc;
 }
 
@@ -161,6 +160,7 @@ same_member old new b same = same
 pub joined_aged : (old new : List (Option MemberState)) (air : AirState) (n first : ℕ) → 1 ≤ first → slice_index_or old n None ≡ None → JoinsAt old new n first → AreAged old air → AreAged new air
 joined_aged old new air n first from none j all = record {
   frames = λ bearer k f there b b_is is. (let was = all.frames bearer k f there b b_is is in let low = was.1 in let up = later b in (was.0, omega (arith, low, up)));
+  counted = λ bearer k f there. stays_counted old new f later (λ a boot low. joined_counts old new n first none j a boot) (all.counted bearer k f there);
   begun = λ k m there. elim (cases_eq k n) [
     | inl same ↦
         let is : j.newcomer ≡ m = (let e : Some j.newcomer ≡ Some m = sym j.here ∙ ap (λ i. slice_index_or new i None) (sym same) ∙ there in cc) in

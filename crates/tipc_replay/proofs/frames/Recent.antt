@@ -8,6 +8,7 @@ use Rattle.tipc_header.specs.Faults.{fault_of}
 use Rattle.tipc_header.specs.Frames.{first_of, kind_in}
 use Rattle.tipc_header.specs.Reading.{fields_at}
 use Rattle.tipc_header.specs.Spelling.{Fields}
+use Rattle.tipc_contact.specs.Sides.{boot_of}
 use Rattle.tipc_node.specs.Nodes.{is_frame_size}
 use Rattle.tipc_paired.specs.Views.{er_of, es_of}
 use Rattle.tipc_replay.specs.declared.air.Sent.{Sent}
@@ -26,6 +27,14 @@ pub state_recent : (members : List (Option MemberState)) (f : Sent) (n bearer : 
     → p.header ≡ header.State said → age_of members f n bearer ≤ 30000 → cast_count_at members n f.peer_boot ≤ f.peer_casts + 30000
 unfolding age_of
 state_recent members f n bearer p said size clear is kind states young =
+    let age = ap (age_by members f n bearer) (state_aging f p said size clear is kind states) in
+    omega (arith, age, young)
+
+-- and of the broadcast of its sender, in the boot of its epoch
+pub state_cast_recent : (members : List (Option MemberState)) (f : Sent) (n bearer : ℕ) (p : Fields) (said : State) → is_frame_size (length f.frame) ≡ true → fault_of (drop 16 f.frame) ≡ None → fields_at (drop 16 f.frame) ≡ p → kind_in f.frame ≡ Links
+    → p.header ≡ header.State said → age_of members f n bearer ≤ 30000 → cast_count_at members (number_of_node f.from.word) (boot_of (es_of f.frame)) ≤ f.casts + 30000
+unfolding age_of
+state_cast_recent members f n bearer p said size clear is kind states young =
     let age = ap (age_by members f n bearer) (state_aging f p said size clear is kind states) in
     omega (arith, age, young)
 

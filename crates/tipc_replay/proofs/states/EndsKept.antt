@@ -1,5 +1,7 @@
--- Every event leaves the link ends of each node right, its numbers its own and low, and its originals so that they name sessions that are over.
-use Rattle.std.proofs.Common.{ℕ, Bool, List, [], Option, length}
+-- Every event leaves the link ends of each node right, its numbers its own and low, its lists packed, and its originals so that they name sessions that are
+-- over.
+use Rattle.std.proofs.Common.{◌+◌, ℕ, Bool, List, [], Option, length}
+use Rattle.tipc_types.specs.Address.{node_word}
 use Rattle.tipc_types.specs.declared.node_calls.Answer.{Answer}
 use Rattle.tipc_types.specs.declared.node_calls.By.{By}
 use Rattle.tipc_types.specs.declared.node_calls.Answer.TheVariants as answer
@@ -9,14 +11,17 @@ use Rattle.tipc_node.specs.Nodes.{NodeState, step_of}
 use Rattle.tipc_node.specs.Numbers.{HasOwnNumbers, IsBounded}
 use Rattle.tipc_node.specs.Originals.{NameEnded}
 use Rattle.tipc_node.specs.Sockets.{kept_answer}
+use Rattle.tipc_node.specs.Telling.{ArePacked}
 use Rattle.tipc_node.proofs.pairs.Numbers.{new_ended, new_numbers, numbers_low, turn_ended, turn_numbers}
+use Rattle.tipc_node.proofs.pairs.Packed.{new_packed, turn_packed}
 use Rattle.tipc_node.proofs.pairs.RightEnds.{new_right}
 use Rattle.tipc_node.proofs.pairs.Standing.{arrived_right, performed_right}
 use Rattle.tipc_replay.specs.declared.events.WorldEvent.{WorldEvent}
 use Rattle.tipc_replay.specs.declared.events.WorldEvent.TheVariants.{Arrive, Call, Restart}
 use Rattle.tipc_replay.specs.Calls.{CanHappenAt}
-use Rattle.tipc_replay.specs.Ends.{AllNameEnded, AreBounded, HaveLowNumbers, HaveOwnNumbers, HaveRightEnds}
+use Rattle.tipc_replay.specs.Ends.{AllNameEnded, AreBounded, HaveLowNumbers, HaveOwnNumbers, HavePackedLists, HaveRightEnds}
 use Rattle.tipc_replay.specs.Events.{JoinsAt}
+use Rattle.tipc_replay.specs.Members.{IsFresh}
 use Rattle.tipc_replay.specs.States.{MemberState}
 use Rattle.tipc_replay.specs.Steps.{Becomes, Stage}
 use Rattle.tipc_replay.proofs.states.Each.{Keeps, becomes_each, joined_each, none_each}
@@ -73,6 +78,27 @@ joined_numbers old new n first j all = joined_each HasOwnNumbers old new n first
 -- so they are low
 pub all_low : (members : List (Option MemberState)) → HaveRightEnds members → HaveOwnNumbers members → AreBounded members → HaveLowNumbers members
 all_low members ends numbers bounded n m there = numbers_low m.node (ends n m there) (numbers n m there) (bounded n m there)
+
+-- ---- lists
+
+fresh_packed : (n : NodeState) (own boot : ℕ) → IsFresh n own boot → ArePacked n
+fresh_packed n own boot h = new_packed n h.alone own boot h.casting
+
+does_packed : (by : By) (event : WorldEvent) → Keeps ArePacked by event
+does_packed by (Restart a) bytes m m' frames answered h was = fresh_packed m'.node m.node.own (m.node.boot + 1) h.0.node
+does_packed by (Call a call) bytes m m' frames answered h was =
+    (let t = h.turn in turn_packed m.node m'.node [] (step_of by call t.inside (kept_answer answered)) frames t.told_before was t.turn)
+does_packed by (Arrive a bearer place) bytes m m' frames answered h was =
+    (let t = h.turn in turn_packed m.node m'.node bytes (step_of by (note.Arrive bearer (length m.arrivals)) t.inside (answer.Arrived h.arrived)) frames t.told_before was t.turn)
+
+pub becomes_packed : (old new : Stage) (by : By) (event : WorldEvent) (answered : Answer) (lost : Bool) → Becomes old by event new answered lost → HavePackedLists old.members → HavePackedLists new.members
+becomes_packed old new by event answered lost h all = becomes_each ArePacked old new by event answered lost (does_packed by event) h all
+
+pub start_packed : HavePackedLists []
+start_packed = none_each ArePacked
+
+pub joined_packed : (old new : List (Option MemberState)) (n first : ℕ) → JoinsAt old new n first → HavePackedLists old → HavePackedLists new
+joined_packed old new n first j all = joined_each ArePacked old new n first (λ fresh h. fresh_packed fresh (node_word n) first h) j all
 
 -- ---- originals
 

@@ -13,8 +13,9 @@ use Rattle.tipc_replay.proofs.calls.Calls.{the_some}
 use Rattle.tipc_world.specs.declared.faults.WorldFault.{WorldFault}
 use Rattle.tipc_world.specs.declared.places.Places.{Places}
 use Rattle.tipc_world.specs.declared.settling.Settled.{Settled}
-use Rattle.tipc_world.specs.Acknowledged.{AllIsAcknowledged, IsAcknowledged}
+use Rattle.tipc_world.specs.Acknowledged.{AllCastsAreReleased, AllIsAcknowledged, IsAcknowledged}
 use Rattle.tipc_world.specs.CalmWorlds.{IsCalmWorld}
+use Rattle.tipc_world.specs.CastRows.{IsCastReleased}
 use Rattle.tipc_world.specs.Directions.{IsReleased, StandsIn, WasNumbered}
 use Rattle.tipc_world.specs.Ends.{ends_of}
 use Rattle.tipc_world.specs.Measures.{NoMoreIsUnderWay}
@@ -24,6 +25,8 @@ use Rattle.tipc_world.specs.Rows.{WasUp}
 use Rattle.tipc_world.specs.Settling.{Rounds, Settles, begin, go_on}
 use Rattle.tipc_world.specs.States.{WorldState}
 use Rattle.tipc_world.specs.StillWorlds.{footing_at}
+use Rattle.tipc_world.proofs.casts.Releasing.{cast_windows_are_released, many_through as casts_through}
+use Rattle.tipc_world.proofs.casts.Standing.{released_on as cast_stays_released}
 use Rattle.tipc_world.proofs.rounds.Beginning.{end_two, node_there, peer_there}
 use Rattle.tipc_world.proofs.rounds.CalmWorlds.{call_begins_calm, up_seen}
 use Rattle.tipc_world.proofs.rounds.HeardWorlds.{call_stays_calm}
@@ -38,7 +41,7 @@ use Rattle.tipc_world.proofs.rounds.Windows.{many_through, more_whole, parts_beh
 -- ---- the rounds of a call
 
 -- they are rounds behind its begin
-from_begin : (start : WorldState) (rounds : ℕ) (places : Places) (now : WorldState) → Rounds start rounds places now → MoreRounds 0 (ends_of start.air) start rounds places now
+pub from_begin : (start : WorldState) (rounds : ℕ) (places : Places) (now : WorldState) → Rounds start rounds places now → MoreRounds 0 (ends_of start.air) start rounds places now
 from_begin start _ _ _ begin = none_more
 from_begin start _ _ _ (go_on done places before ends now made round) = one_more done places before ends now (from_begin start done places before made) round
 
@@ -109,6 +112,20 @@ call_acknowledges start rounds places now kept poised made whole many a b bearer
 pub settled_acknowledges : (rounds : ℕ) (start : WorldState) (answered : Result Settled WorldFault) (now : WorldState) → IsKept start → Settles rounds start answered now → OnOk answered (IsPoised start → 200 ≤ rounds → AllIsAcknowledged start now)
 settled_acknowledges rounds start (Ok settled) now kept h = λ poised many. call_acknowledges start rounds h.0.0 now kept poised h.0.1 h.1 many
 settled_acknowledges rounds start (Err stop) now kept h = tt
+
+-- so it is with broadcast packets
+call_releases_casts : (start : WorldState) (rounds : ℕ) (places : Places) (now : WorldState) → IsKept start → IsPoised start → Rounds start rounds places now → now.lost ≡ false → 200 ≤ rounds → AllCastsAreReleased start now
+call_releases_casts start rounds places now kept poised made whole many a m there =
+    let position = m.node.casting.sending.numbered in
+    let first = ends_of start.air in
+    let p = parts_behind 0 first start 200 rounds places now (omega arith) many (from_begin start rounds places now made) in
+    let clear = more_whole 200 p.middle p.between rounds places now p.rest whole in
+    let released = cast_windows_are_released start 0 first start p.middle p.between a position kept poised begin p.front clear (m, there, omega arith) in
+    casts_through start 200 p.middle p.between rounds places now a (IsCastReleased position) (cast_stays_released position) kept poised (rounds_join start 0 first start 200 p.middle p.between begin p.front) p.rest whole released
+
+pub settled_releases_casts : (rounds : ℕ) (start : WorldState) (answered : Result Settled WorldFault) (now : WorldState) → IsKept start → Settles rounds start answered now → OnOk answered (IsPoised start → 200 ≤ rounds → AllCastsAreReleased start now)
+settled_releases_casts rounds start (Ok settled) now kept h = λ poised many. call_releases_casts start rounds h.0.0 now kept poised h.0.1 h.1 many
+settled_releases_casts rounds start (Err stop) now kept h = tt
 
 pub settled_grows_no_more : (rounds : ℕ) (start : WorldState) (answered : Result Settled WorldFault) (now : WorldState) → IsKept start → Settles rounds start answered now → OnOk answered (IsPoised start → NoMoreIsUnderWay start now)
 settled_grows_no_more rounds start (Ok settled) now kept h = λ poised. never_grows start rounds h.0.0 now kept poised h.0.1 h.1

@@ -1,5 +1,5 @@
 -- In a calm world neither a tick nor an arrival tells of any link or contact of its node, whichever the peer.
-use Rattle.std.specs.Prelude.{option_map}
+use Rattle.std.specs.Prelude.{option_map, ◌⊎◌}
 use Rattle.std.proofs.Common.{◌≡◌, ◌≢◌, ◌∙◌, ℕ, true, false, List, [], Option, Some, None, length, slice_index_or, inl, inr, refl, sym, ap, subst, arith}
 use Rattle.std.proofs.lemmas.Bool.{cases_eq, cases_lt}
 use Rattle.tipc_types.specs.Address.{node_word}
@@ -77,6 +77,19 @@ no_pair (Some x) none = absurd cc
 
 unknown : (w : WorldState) (n b : ℕ) (m : MemberState) → slice_index_or w.members n None ≡ Some m → pair_at w.members n b ≡ None → neighbour_of m.node b ≡ None
 unknown w n b m there none = no_pair (neighbour_of m.node b) (sym (pair_at-is w.members n b m (member_at-is w.members n m there)) ∙ none)
+
+-- it is one of another node, or nothing is kept of it
+pub which_peer : (w : WorldState) (n b : ℕ) (m : MemberState) → IsKept w → slice_index_or w.members n None ≡ Some m → (IsNumber b × (n ≢ b)) ⊎ (neighbour_of m.node b ≡ None)
+which_peer w n b m kept there = elim (cases_lt b 1) [
+  | inl low ↦ inr (unknown w n b m there (kept.nodes.sound.known n b (λ number. absurd (omega (arith, low, number.0)))))
+  | inr from_one ↦ elim (cases_lt b 33) [
+    | inr high ↦ inr (unknown w n b m there (kept.nodes.sound.known n b (λ number. absurd (omega (arith, high, number.1)))))
+    | inl to_32 ↦ elim (cases_eq b n) [
+      | inl same ↦ inr (unknown w n b m there (ap (λ k. pair_at w.members n k) same ∙ kept.nodes.sound.apart n))
+      | inr other_one ↦ inl ((from_one, omega (arith, to_32)), λ same. other_one (sym same))
+    ]
+  ]
+]
 
 -- every number
 any_peer : (w : WorldState) (n : ℕ) (m : MemberState) (event : EventNote) (bytes : List ℕ) → IsKept w → slice_index_or w.members n None ≡ Some m → ((b : ℕ) → IsNumber b → n ≢ b → IsAnyPeer m.node event bytes b)

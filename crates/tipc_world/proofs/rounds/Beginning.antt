@@ -56,7 +56,7 @@ end_low bearer (Some x) e is low = by (nat_le bearer 1) is
     by false is = absurd cc
 
 -- the counts of each node are low
-known_pair : (n : NodeState) (b : ℕ) (x : PairEnds) → pair_in n b ≡ Some x → pair_with n b ≡ x
+pub known_pair : (n : NodeState) (b : ℕ) (x : PairEnds) → pair_in n b ≡ Some x → pair_with n b ≡ x
 known_pair n b x is = by (neighbour_of n b) is
   where
     by : (o : Option Neighbour) → option_map (λ (y : Neighbour). y.pair) o ≡ Some x → (acquaintance n b o).pair ≡ x

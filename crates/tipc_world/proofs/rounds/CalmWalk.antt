@@ -1,5 +1,5 @@
 -- What each tick and each arrival of a calm world keeps, a whole call keeps that began in a poised one.
-use Rattle.std.proofs.Common.{◌≡◌, ◌≤◌, ◌<◌, ◌+◌, ◌*◌, ◌∙◌, ℕ, false, [], Some, None, Ok, length, slice_index_or, inl, inr, sym, ap, subst, arith}
+use Rattle.std.proofs.Common.{◌≡◌, ◌≤◌, ◌+◌, ◌*◌, ◌∙◌, ℕ, false, [], Some, None, Ok, length, slice_index_or, inl, inr, sym, ap, subst, arith}
 use Rattle.std.specs.Prelude.{◌/◌}
 use Rattle.tipc_types.specs.declared.node_calls.Answer.{Answer}
 use Rattle.tipc_types.specs.declared.node_calls.EventNote.TheVariants as note
@@ -102,21 +102,24 @@ arrivals_have start K bearer from outset end count now kept poised each on_one b
       | inr arrived ↦ one_arrival start K kept poised each before after was_clear arrived h
     ]) goes whole so
 
--- ---- a call
+-- ---- a round, and a call
 
--- what each event of a call keeps that began in a poised world
+-- what each event of a round keeps of a call that began in a poised world
+pub round_keeps : (start : WorldState) (K : WorldState → Type 0) (done : ℕ) (at : Places) (before : WorldState) (ends : Places) (after : WorldState) → IsKept start → IsPoised start → CalmTicksKeep start K → CalmArrivalsKeep start K → Rounds start done at before
+    → Round at before (Ok ends) after → after.lost ≡ false → K before → K after
+round_keeps start K done at before ends after kept poised ticks arrivals so_far round clear so =
+    let r = round_parts at before ends after round in
+    let clear_between = goes_whole _ _ r.between _ _ after r.second_part clear in
+    let clear_ticked = goes_whole _ _ r.ticked _ _ r.between r.first_part clear_between in
+    let was_clear = round_whole at before ends after r clear in
+    let calm = call_stays_calm start done at before kept poised so_far was_clear in
+    let goes = settling_goes_on start done at before so_far was_clear in
+    let ticked = ticks_have start K before r.ticks r.ticked kept ticks r.tick_part clear_ticked (record { calm = calm.calm; has = so }) calm.heard in
+    let between = arrivals_have start K 0 (numbers * at.first) r.ticked (numbers * length r.ticked.air.first) r.arrivals r.between kept poised arrivals (omega arith) (place_there at.first (ends_of start.air).first goes.behind.0) r.first_part clear_between ticked in
+    let last = arrivals_have start K 1 (numbers * at.second) r.between (numbers * length r.ticked.air.second) r.others after kept poised arrivals (omega arith) (place_there at.second (ends_of start.air).second goes.behind.1) r.second_part clear between in
+    last.has
+
+-- and of the call
 pub call_keeps : (start : WorldState) (K : WorldState → Type 0) (rounds : ℕ) (places : Places) (now : WorldState) → IsKept start → IsPoised start → CalmTicksKeep start K → CalmArrivalsKeep start K → Rounds start rounds places now → now.lost ≡ false → K start → K now
-call_keeps start K rounds places now kept poised ticks arrivals made whole h = rounds_keep (λ done at w. K w) start rounds places now each made whole h
-  where
-    each : (done : ℕ) (at : Places) (before : WorldState) (ends : Places) (after : WorldState) → done < rounds → Rounds start done at before → Round at before (Ok ends) after → after.lost ≡ false → K before → K after
-    each done at before ends after fewer so_far round clear so =
-        let r = round_parts at before ends after round in
-        let clear_between = goes_whole _ _ r.between _ _ after r.second_part clear in
-        let clear_ticked = goes_whole _ _ r.ticked _ _ r.between r.first_part clear_between in
-        let was_clear = round_whole at before ends after r clear in
-        let calm = call_stays_calm start done at before kept poised so_far was_clear in
-        let goes = settling_goes_on start done at before so_far was_clear in
-        let ticked = ticks_have start K before r.ticks r.ticked kept ticks r.tick_part clear_ticked (record { calm = calm.calm; has = so }) calm.heard in
-        let between = arrivals_have start K 0 (numbers * at.first) r.ticked (numbers * length r.ticked.air.first) r.arrivals r.between kept poised arrivals (omega arith) (place_there at.first (ends_of start.air).first goes.behind.0) r.first_part clear_between ticked in
-        let last = arrivals_have start K 1 (numbers * at.second) r.between (numbers * length r.ticked.air.second) r.others after kept poised arrivals (omega arith) (place_there at.second (ends_of start.air).second goes.behind.1) r.second_part clear between in
-        last.has
+call_keeps start K rounds places now kept poised ticks arrivals made whole h = rounds_keep (λ done at w. K w) start rounds places now
+    (λ done at before ends after fewer so_far round clear so. round_keeps start K done at before ends after kept poised ticks arrivals so_far round clear so) made whole h

@@ -1,6 +1,6 @@
 -- A world in which no link was up is poised after four rounds, and after each later one.
-use Rattle.std.specs.Prelude.{◌||◌, ◌⊎◌, if◌then◌else◌, option_map, unwrap_or}
-use Rattle.std.proofs.Common.{◌≡◌, ◌≢◌, ◌≤◌, ◌+◌, ◌∙◌, ℕ, zero, suc, Bool, true, false, Option, Some, None, Ok, slice_index_or, is_some, inl, inr, refl, sym, ap, subst, arith}
+use Rattle.std.specs.Prelude.{◌||◌, ◌⊎◌, if◌then◌else◌, option_map, unwrap_or, OnOk}
+use Rattle.std.proofs.Common.{◌≡◌, ◌≢◌, ◌≤◌, ◌+◌, ◌∙◌, ℕ, zero, suc, Bool, true, false, Option, Some, None, Result, Ok, Err, slice_index_or, is_some, inl, inr, refl, sym, ap, subst, arith}
 use Rattle.std.proofs.lemmas.Bool.{true≢false}
 use Rattle.tipc_types.specs.LinkStates.{is_up}
 use Rattle.tipc_link.specs.Links.{LinkEnd}
@@ -16,14 +16,15 @@ use Rattle.tipc_replay.specs.States.{MemberState, contact_at, has_member, is_lin
 use Rattle.tipc_replay.proofs.LookUps.{member_at-is}
 use Rattle.tipc_replay.proofs.calls.Calls.{the_some}
 use Rattle.tipc_replay.proofs.casts.CasterLooks.{contact_at-is}
+use Rattle.tipc_world.specs.declared.faults.WorldFault.{WorldFault}
 use Rattle.tipc_world.specs.declared.places.Places.{Places}
+use Rattle.tipc_world.specs.declared.settling.Settled.{Settled}
 use Rattle.tipc_world.specs.Ends.{ends_of}
 use Rattle.tipc_world.specs.Poised.{IsDownWorld, IsPoised, IsUpTowards, LinkIsCut, LinkStands}
 use Rattle.tipc_world.specs.RisingWorlds.{AreSilentFor, AreUpsAnswered}
 use Rattle.tipc_world.specs.RoundParts.{IsKept, IsRound}
-use Rattle.tipc_world.specs.Settling.{Round, Rounds}
-use Rattle.tipc_world.specs.Settling.Rounds.{begin}
-use Rattle.tipc_world.specs.Stages.{AreAllYoung, HasAnswered, HasComeUp, HasMet, HasSeenAll, IsMetWorld, ShareBearer, MetRound}
+use Rattle.tipc_world.specs.Settling.{Round, Rounds, Settles}
+use Rattle.tipc_world.specs.Stages.{HasAnswered, HasComeUp, HasMet, HasSeenAll, IsMetWorld, ShareBearer, MetRound}
 use Rattle.tipc_world.specs.States.{WorldState, is_there}
 use Rattle.tipc_world.specs.StillWorlds.{footing_at}
 use Rattle.tipc_world.proofs.rounds.CalmWorlds.{mended_since}
@@ -48,11 +49,11 @@ mended_there start b bearer mended = by (slice_index_or start.members b None) re
     by None none = absurd (true≢false (sym mended ∙ ap (λ x. unwrap_or (option_map (λ (m : MemberState). is_mended_on m.node.mended bearer) x) false) none))
     by (Some m) is = ap is_some is
 
-module _ (start : WorldState) (kept : IsKept start) (down : IsDownWorld start) (young : AreAllYoung start) where
+module _ (start : WorldState) (kept : IsKept start) (down : IsDownWorld start) where
   has_met : (ends : Places) (now : WorldState) → Round (ends_of start.air) start (Ok ends) now → now.lost ≡ false → HasMet start now
   has_met ends now round clear =
       let r = round_parts (ends_of start.air) start ends now round in
-      let k : FirstRound start ends now r = record { kept = kept; down = down; clear = round_whole (ends_of start.air) start ends now r clear; young = young 0 (ends_of start.air) start ends now begin r clear; whole = clear } in
+      let k : FirstRound start ends now r = record { kept = kept; down = down; clear = round_whole (ends_of start.air) start ends now r clear; whole = clear } in
       let all = rises start ends now r k in
       let last = all.round in
       let g = last.guards in
@@ -70,7 +71,7 @@ module _ (start : WorldState) (kept : IsKept start) (down : IsDownWorld start) (
       → IsMetWorld start most step outset → AreUpsAnswered start outset → MetRound start most step places outset ends now r
   later_round most step done places outset ends now so_far r clear few met ups =
       let goes = settling_goes_on start done places outset so_far (round_whole places outset ends now r clear) in
-      record { kept = kept; down = down; few = few; behind = goes.behind; within = goes.within; young = young done places outset ends now so_far r clear; whole = clear; met = met; ups = ups }
+      record { kept = kept; down = down; few = few; behind = goes.behind; within = goes.within; whole = clear; met = met; ups = ups }
 
   ups_then : (most step : ℕ) (places : Places) (outset : WorldState) (ends : Places) (now : WorldState) (r : IsRound places outset ends now) → MetRound start most step places outset ends now r → AreUpsAnswered start now
   ups_then most step places outset ends now r k =
@@ -337,5 +338,10 @@ module _ (start now : WorldState) (kept_start : IsKept start) (h : HasComeUp sta
       by true false one two = inr (cut_so a b bearer here there apart on_one (inr two))
 
 -- So it is after four rounds or more.
-pub comes_up : (start : WorldState) (rounds : ℕ) (places : Places) (now : WorldState) → 4 ≤ rounds → IsKept start → IsDownWorld start → AreAllYoung start → Rounds start rounds places now → now.lost ≡ false → IsPoised now
-comes_up start rounds places now four kept down young made clear = come_up_poised start now kept (all_up start kept down young rounds places now four made clear)
+pub comes_up : (start : WorldState) (rounds : ℕ) (places : Places) (now : WorldState) → 4 ≤ rounds → IsKept start → IsDownWorld start → Rounds start rounds places now → now.lost ≡ false → IsPoised now
+comes_up start rounds places now four kept down made clear = come_up_poised start now kept (all_up start kept down rounds places now four made clear)
+
+-- and behind a call that settles in so many
+pub settled_comes_up : (rounds : ℕ) (start : WorldState) (answered : Result Settled WorldFault) (now : WorldState) → IsKept start → Settles rounds start answered now → OnOk answered (IsDownWorld start → 4 ≤ rounds → IsPoised now)
+settled_comes_up rounds start (Ok settled) now kept h = λ down four. comes_up start rounds h.0.0 now four kept down h.0.1 h.1
+settled_comes_up rounds start (Err stop) now kept h = tt

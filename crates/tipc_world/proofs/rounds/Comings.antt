@@ -429,7 +429,7 @@ module _ (start : WorldState) (most step : ℕ) (places : Places) (outset : Worl
 
       noticed : IsNotice s.said.packet.header → AtNode n (λ m. (pair_with m.node b).seen ≡ (footing_at start b n).contact) now
       noticed notice_is =
-          brings start most step places outset ends now r k b n bearer s.tick s.said.frame (λ x. x.seen ≡ (footing_at start b n).contact) shared s.said.among lasts
+          brings start most step places outset ends now r k b n bearer s.tick s.said.frame (λ x. x.seen ≡ (footing_at start b n).contact) shared s.said.among s.said.kind lasts
           (λ old new a here on is g next said.
           let w = heard_so n b bearer shared s.tick s.end.end s.said old new a here on is g in
           let q = w.reaches in
@@ -465,7 +465,7 @@ module _ (start : WorldState) (most step : ℕ) (places : Places) (outset : Worl
   taken_up : (n b bearer : ℕ) → ShareBearer start n b bearer → (s : Speaks n b bearer) → (said : Reset) → s.said.packet.header ≡ header.Activate said → AnswersTo ((footing_at start n b).epoch bearer) s.end.end.fsm
       → AtNode n (λ m. is_up_at (facing bearer (pair_with m.node b)).near ≡ true) now
   taken_up n b bearer shared s said is answers =
-      brings start most step places outset ends now r k b n bearer s.tick s.said.frame (λ x. is_up_at (facing bearer x).near ≡ true) shared s.said.among
+      brings start most step places outset ends now r k b n bearer s.tick s.said.frame (λ x. is_up_at (facing bearer x).near ≡ true) shared s.said.among s.said.kind
       (λ x x' h was. up_stays (footing_at start n b) (footing_at start b n) x x' bearer shared.on_one h was)
       (λ old new a here on is_frame g next told.
       let w = heard_so n b bearer shared s.tick s.end.end s.said old new a here on is_frame g in
@@ -500,7 +500,7 @@ module _ (start : WorldState) (most step : ℕ) (places : Places) (outset : Worl
 
       by : Word s.end.end s.said.packet.header → AtNode n (λ m. AnswersAt ((footing_at start b n).epoch bearer) (facing bearer (pair_with m.node b)).near) now
       by (says_reset said unheard is) =
-          brings start most step places outset ends now r k b n bearer s.tick s.said.frame (λ x. AnswersAt ((footing_at start b n).epoch bearer) (facing bearer x).near) shared s.said.among lasts
+          brings start most step places outset ends now r k b n bearer s.tick s.said.frame (λ x. AnswersAt ((footing_at start b n).epoch bearer) (facing bearer x).near) shared s.said.among s.said.kind lasts
           (λ old new a here on is_frame g next told.
           let w = heard_so n b bearer shared s.tick s.end.end s.said old new a here on is_frame g in
           let q = w.reaches in
@@ -537,7 +537,7 @@ module _ (start : WorldState) (most step : ℕ) (places : Places) (outset : Worl
       by (says_reset said unheard is) = absurd (true≢false (sym speaker.heard ∙ unheard))
       by (says_activate said heard_it is) = taken_up n b bearer shared s said is speaker
       by (says_state said up is) =
-          brings start most step places outset ends now r k b n bearer s.tick s.said.frame (λ x. is_up_at (facing bearer x).near ≡ true) shared s.said.among
+          brings start most step places outset ends now r k b n bearer s.tick s.said.frame (λ x. is_up_at (facing bearer x).near ≡ true) shared s.said.among s.said.kind
           (λ x x' h was. up_stays (footing_at start n b) (footing_at start b n) x x' bearer shared.on_one h was)
           (λ old new a here on is_frame g next told.
           let w = heard_so n b bearer shared s.tick s.end.end s.said old new a here on is_frame g in
@@ -582,7 +582,7 @@ module _ (start : WorldState) (most step : ℕ) (places : Places) (outset : Worl
       by (says_reset said unheard is) = absurd (true≢false (sym (ap (λ t. t || is_reset_reset s.end.end.fsm.state) up) ∙ unheard))
       by (says_activate said heard_it is) = absurd (not_reset s.end.end.fsm.state up heard_it)
       by (says_state said was_up is) =
-          brings_it start most step places outset ends now r k b n bearer s.tick s.said.frame (λ x. silence_in (facing bearer x).near ≡ 0) shared s.said.among (never_silent n b bearer)
+          brings_it start most step places outset ends now r k b n bearer s.tick s.said.frame (λ x. silence_in (facing bearer x).near ≡ 0) shared s.said.among s.said.kind (never_silent n b bearer)
           (λ old new a here on is_frame g next told.
           let w = heard_so n b bearer shared s.tick s.end.end s.said old new a here on is_frame g in
           let q = w.reaches in

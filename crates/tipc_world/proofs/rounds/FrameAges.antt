@@ -3,6 +3,8 @@ use Rattle.std.specs.Prelude.{drop, if◌then◌else◌}
 use Rattle.std.proofs.Common.{◌≡◌, ◌≢◌, ◌≤◌, ◌+◌, ◌∙◌, ℕ, Bool, true, false, List, Option, Some, None, length, slice_index_or, refl, sym, ap, subst, arith}
 use Rattle.std.proofs.lemmas.List.{drop_at}
 use Rattle.tipc_types.specs.Address.{node_word}
+use Rattle.tipc_types.specs.Limits.{most_age}
+use Rattle.tipc_header.specs.declared.fault.HeaderFault.{HeaderFault}
 use Rattle.tipc_header.specs.declared.frames.FrameKind.{FrameKind}
 use Rattle.tipc_header.specs.declared.frames.FrameKind.TheVariants.{Casts, Finds, Links}
 use Rattle.tipc_header.specs.declared.packet.Header.{Header}
@@ -34,7 +36,7 @@ use Rattle.tipc_replay.proofs.frames.Coming.{for_node, spoken_to, to_all_nodes}
 use Rattle.tipc_replay.proofs.frames.Reaching.{placed}
 use Rattle.tipc_world.specs.CalmWorlds.{IsCalmWorld, IsFromMended}
 use Rattle.tipc_world.specs.Poised.{IsPoised}
-use Rattle.tipc_world.specs.RoundParts.{IsKept}
+use Rattle.tipc_world.specs.RoundParts.{IsKept, SettlesOn}
 use Rattle.tipc_world.specs.States.{WorldState, is_there}
 use Rattle.tipc_world.specs.StillWorlds.{footing_at}
 use Rattle.tipc_world.specs.YoungWorlds.{CastsNothing, IsSince, NumbersFew, casts_at, link_count}
@@ -61,8 +63,22 @@ by_session members f n bearer most h young = by (is_traffic h) (is_state h) youn
     by true false young = (let all = young refl in omega (arith, all))
     by false c young = omega arith
 
+-- a discovery packet is never too old
+never_ages : (bytes : List ℕ) → kind_in bytes ≡ Finds → aging_of bytes ≡ aging.Never
+unfolding aging_of
+never_ages bytes is = by (is_frame_size (length bytes)) (fault_of (drop 16 bytes))
+  where
+    by : (size : Bool) (fault : Option HeaderFault) → (if size then aging_by_fault bytes fault else aging.Never) ≡ aging.Never
+    by true (Some fault) = refl
+    by true None = ap (λ k. aging_by_kind bytes k (fields_at (drop 16 bytes)).header) is
+    by false fault = refl
+
+pub finds_young : (members : List (Option MemberState)) (f : Sent) (n bearer : ℕ) → kind_in f.frame ≡ Finds → age_of members f n bearer ≤ most_age
+unfolding age_of
+finds_young members f n bearer is = (let none : age_by members f n bearer (aging_of f.frame) ≡ 0 = ap (age_by members f n bearer) (never_ages f.frame is) in omega (arith, none))
+
 -- the age of a frame by its kind
-age_at_most : (members : List (Option MemberState)) (f : Sent) (n bearer most : ℕ) (k : FrameKind) → is_frame_size (length f.frame) ≡ true → fault_of (drop 16 f.frame) ≡ None → kind_in f.frame ≡ k
+pub age_at_most : (members : List (Option MemberState)) (f : Sent) (n bearer most : ℕ) (k : FrameKind) → is_frame_size (length f.frame) ≡ true → fault_of (drop 16 f.frame) ≡ None → kind_in f.frame ≡ k
     → (k ≡ Links → is_traffic (fields_at (drop 16 f.frame)).header ≡ true → state_age members f n bearer (es_of f.frame) (er_of f.frame) ≤ most)
     → (k ≡ Casts → cast_age members f (first_of f.frame) ≤ most) → age_of members f n bearer ≤ most
 unfolding age_of
@@ -77,7 +93,7 @@ age_at_most members f n bearer most k size clear is links casts = subst (λ c. a
 -- ---- boots
 
 -- the epochs of a footing are of the node's boot
-foot_boot : (start : WorldState) (a b bearer : ℕ) → IsKept start → IsNumber a → IsNumber b → a ≢ b → bearer ≤ 1 → boot_of ((footing_at start a b).epoch bearer) ≡ boot_at start.members a
+pub foot_boot : (start : WorldState) (a b bearer : ℕ) → IsKept start → IsNumber a → IsNumber b → a ≢ b → bearer ≤ 1 → boot_of ((footing_at start a b).epoch bearer) ≡ boot_at start.members a
 unfolding sight_at
 foot_boot start a b bearer kept a_is b_is apart on_one = ap boot_of (seen_end v bearer on_one) ∙ by (v.ends bearer) refl
   where
@@ -97,10 +113,10 @@ foot_boot start a b bearer kept a_is b_is apart on_one = ap boot_of (seen_end v 
 -- ---- broadcast
 
 -- a broadcast link has used no more numbers than it had accepted packets when the call began
-used_within : (start w : WorldState) (n boot : ℕ) → IsCalmWorld start w → CastsNothing start w → is_there w n ≡ true → boot ≡ boot_at start.members n → cast_count_at w.members n boot ≤ casts_at start n
-used_within start w n boot g casts here present =
+pub used_within : (start w : WorldState) (n boot : ℕ) → SettlesOn start w → CastsNothing start w → is_there w n ≡ true → boot ≡ boot_at start.members n → cast_count_at w.members n boot ≤ casts_at start n
+used_within start w n boot on casts here present =
     let m = the_member (slice_index_or w.members n None) here in
-    let used = numbers_used w n boot m.0 m.1 (present ∙ sym (g.on.boots n)) in
+    let used = numbers_used w n boot m.0 m.1 (present ∙ sym (on.boots n)) in
     let same = casts n here in
     omega (arith, used, same)
 
@@ -127,11 +143,11 @@ state_young start base w b n bearer most f es er p kept_start poised g few casts
     let second : count_at w.members n (number_of_node f.from.word) bearer (er_of f.frame) ≡ link_count start w n b bearer = ap (λ k. count_at w.members n k bearer (er_of f.frame)) number ∙ ap (count_at w.members n b bearer) er_is in
     let boot : boot_of (es_of f.frame) ≡ boot_at start.members b = ap boot_of es_is ∙ foot_boot start b n bearer kept_start sent_by.number n_is sent_by.apart on_one in
     let cast : cast_count_at w.members (number_of_node f.from.word) (boot_of (es_of f.frame)) ≡ cast_count_at w.members b (boot_of (es_of f.frame)) = ap (λ k. cast_count_at w.members k (boot_of (es_of f.frame))) number in
-    let cast_few = used_within start w b (boot_of (es_of f.frame)) g casts sent_by.there boot in
+    let cast_few = used_within start w b (boot_of (es_of f.frame)) g.on casts sent_by.there boot in
     let cast_since = since.casts.own b from in
     let to_it = for_node (stage w.members w.air) n bearer place f kept.nodes.sound found kind_is in
     let here : is_there w n ≡ true = g.on.nodes n ∙ up.1 in
-    let peer_cast_few = used_within start w n f.peer_boot g casts here (since.casts.peer_boot n to_it) in
+    let peer_cast_few = used_within start w n f.peer_boot g.on casts here (since.casts.peer_boot n to_it) in
     let peer_cast_since = since.casts.peer n up.1 to_it in
     omega (arith, own, peer, own_few, peer_few, first, second, cast, cast_few, cast_since, peer_cast_few, peer_cast_since)
 
@@ -159,7 +175,7 @@ age_since start base w n bearer place most f kept_start poised g few casts since
         let words : node_word by.0 ≡ node_word a = sym by.1 ∙ from in
         let one : by.0 ≡ a = omega (arith, words) in
         let here : is_there w a ≡ true = subst (λ k. is_there w k ≡ true) one by.2 in
-        let used = used_within start w a (first_of f.frame) g casts here (since.casts.boot a from all kind_is) in
+        let used = used_within start w a (first_of f.frame) g.on casts here (since.casts.boot a from all kind_is) in
         let beside = since.casts.own a from in
         let number : cast_count_at w.members (number_of_node f.from.word) (first_of f.frame) ≡ cast_count_at w.members a (first_of f.frame) = ap (λ k. cast_count_at w.members k (first_of f.frame)) (number_is f.from.word a from) in
         omega (arith, used, beside, number)

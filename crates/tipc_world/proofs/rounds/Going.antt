@@ -22,6 +22,8 @@ use Rattle.tipc_world.specs.RoundParts.{EachNode, FrameArrives, HappensWhole, Is
 use Rattle.tipc_world.specs.Settling.{arrival_asked, tick_asked}
 use Rattle.tipc_world.specs.States.{WorldState}
 use Rattle.tipc_world.specs.StillWorlds.{HasHeardAll}
+use Rattle.tipc_world.proofs.casts.Events.{arrival_cast, tick_cast}
+use Rattle.tipc_world.proofs.casts.Going.{CastsGo, casts_same, casts_then, event_casts, rest_casts}
 use Rattle.tipc_world.proofs.rounds.CalmEvents.{by_arrival, step_of_arrival, step_of_tick, tick_turn}
 use Rattle.tipc_world.proofs.rounds.CalmWorlds.{calm_arrival, calm_tick}
 use Rattle.tipc_world.proofs.rounds.Events.{arrive_either, tick_either}
@@ -36,26 +38,29 @@ use Rattle.tipc_world.proofs.rounds.UpLinks.{session_near}
 abbrev pub GoesFrom : WorldState → ℕ → MemberState → Type 0
 GoesFrom base n m = (k : MemberState) → slice_index_or base.members n None ≡ Some k → (b : ℕ) → IsNumber b → n ≢ b → EndsGoOn (pair_with k.node b) (pair_with m.node b)
 
--- a calm world goes on from a moment, and so do all sessions
+-- a calm world goes on from a moment, and so do all sessions and all broadcast links
 pub record Going (start base w : WorldState) : Type 0 where
   pub calm : IsCalmWorld start w
   pub on : SettlesOn base w
   pub goes : EachNode (GoesFrom base) w
+  pub casts : CastsGo start base w
 
 pub begins_going : (start base : WorldState) → base.lost ≡ false → IsCalmWorld start base → Going start base base
 begins_going start base clear calm = record {
   calm = calm;
   on = settles_same base clear;
   goes = λ n m there k k_there b number apart. (let both : Some m ≡ Some k = sym there ∙ k_there in let same : m ≡ k = cc in same_lasts (pair_with k.node b) (pair_with m.node b) (ap (λ (q : MemberState). pair_with q.node b) same));
+  casts = casts_same start base;
 }
 
-one_goes : (start base old new : WorldState) (event : WorldEvent) (bytes : List ℕ) (answered : Answer) (h : HappensWhole old new event bytes answered) → Going start base old → SettlesOn old new → IsCalmWorld start new
+one_goes : (start base old new : WorldState) (event : WorldEvent) (bytes : List ℕ) (answered : Answer) (h : HappensWhole old new event bytes answered) → Going start base old → SettlesOn old new → CastsGo start old new → IsCalmWorld start new
     → ((b : ℕ) → IsNumber b → node_of event ≢ b → EndsGoOn (pair_with h.before.node b) (pair_with h.after.node b)) → Going start base new
-one_goes start base old new event bytes answered h r next calm lasts = record {
+one_goes start base old new event bytes answered h r next casts calm lasts = record {
   calm = calm;
   on = settles_more base old new r.on next;
   goes = nodes_keep (GoesFrom base) old new event bytes answered h
       (λ goes k there b number apart. ends_then (pair_with k.node b) (pair_with h.before.node b) (pair_with h.after.node b) (goes k there b number apart) (lasts b number apart)) r.goes;
+  casts = casts_then start base old new r.on r.casts casts;
 }
 
 -- ---- ticks
@@ -71,7 +76,7 @@ one_tick start base number old new answered kept clear h b =
     let ready = b.later number h.before (omega arith) h.was in
     let stays = calm_tick start kept old new number answered h calm next ready in
     record {
-      going = one_goes start base old new (Call number note.Tick) [] answered h b.going next (guarded_on start (ends_of start.air) (IsCalmNode start) (IsFromMended start) old new (Call number note.Tick) [] answered h calm next stays)
+      going = one_goes start base old new (Call number note.Tick) [] answered h b.going next (rest_casts start old new (Call number note.Tick) [] answered h (tick_cast start old new number answered h kept calm ready)) (guarded_on start (ends_of start.air) (IsCalmNode start) (IsFromMended start) old new (Call number note.Tick) [] answered h calm next stays)
           (λ c is apart. turn_lasts start old number c h.before h.after [] (step_of_tick old new number answered h) h.frames (calm.on.kept kept) h.was is apart (calm.nodes number h.before h.was c is apart) (tick_turn start old new number answered h calm ready c is apart));
       later = λ n m above there. b.later n m (omega (arith, above)) (sym (other_stays old new (Call number note.Tick) [] answered h n (λ same. let wrong : ⊥ = omega (arith, above, same) in wrong)) ∙ there);
     }
@@ -103,7 +108,8 @@ one_arrives start base kept poised old new clear a r =
     let said = r.calm.frames a.bearer a.place a.frame a.on_one a.behind (placed old.air a.node a.bearer a.place a.frame a.found).0 in
     let stays = calm_arrival start kept poised old new a r.calm next said in
     let event = Arrive a.node a.bearer a.place in
-    one_goes start base old new event a.frame.frame a.answered h r next (guarded_on start (ends_of start.air) (IsCalmNode start) (IsFromMended start) old new event a.frame.frame a.answered h r.calm next stays)
+    let calm = guarded_on start (ends_of start.air) (IsCalmNode start) (IsFromMended start) old new event a.frame.frame a.answered h r.calm next stays in
+    one_goes start base old new event a.frame.frame a.answered h r next (event_casts start old new event a.frame.frame a.answered h kept poised r.calm calm (arrival_cast start kept poised old new a r.calm said)) calm
     (λ b is apart. by_arrival start kept poised old new a r.calm said b is apart (EndsGoOn (pair_with h.before.node b) (pair_with h.after.node b)) (same_lasts (pair_with h.before.node b) (pair_with h.after.node b))
     (λ c. turn_lasts start old a.node b h.before h.after a.frame.frame (step_of_arrival start old new a) h.frames (r.calm.on.kept kept) h.was is apart (r.calm.nodes a.node h.before h.was b is apart) c))
 

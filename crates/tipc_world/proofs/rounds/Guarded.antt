@@ -16,7 +16,7 @@ use Rattle.tipc_world.specs.declared.places.Places.{Places}
 use Rattle.tipc_world.specs.declared.settling.Receivers.TheVariants.{Any}
 use Rattle.tipc_world.specs.Courses.{Goes, numbers}
 use Rattle.tipc_world.specs.Ends.{place_on, AreBefore}
-use Rattle.tipc_world.specs.RoundParts.{EachNode, FrameArrives, Guards, HappensWhole, IsRound, SettlesOn}
+use Rattle.tipc_world.specs.RoundParts.{EachNode, FrameArrives, Guards, HappensWhole, HasTickedOnce, IsRound, SettlesOn}
 use Rattle.tipc_world.specs.Settling.{arrival_asked, tick_asked}
 use Rattle.tipc_world.specs.States.{WorldState}
 use Rattle.tipc_world.proofs.rounds.Events.{arrive_either, tick_either}
@@ -74,18 +74,28 @@ no_tick start from P ready F number old new same b = record {
   later = λ n m above there. b.later n m (omega (arith, above)) (sym (ap (λ (w : WorldState). slice_index_or w.members n None) same) ∙ there);
 }
 
-pub ticks_guarded : (start : WorldState) (from : Places) (P ready : ℕ → MemberState → Type 0) (F : ℕ → Sent → Type 0) (outset : WorldState) (count : ℕ) (now : WorldState) → TicksGuarded start from P ready F
-    → Goes tick_asked 1 outset numbers count now → now.lost ≡ false → Guards start from P F outset → EachNode ready outset → Guards start from P F now
-ticks_guarded start from P ready F outset count now each goes whole g all =
-    let last = goes_keep tick_asked (BeforeTick start from P ready F) 1 outset numbers count now
+-- before the tick of each later number
+pub ticks_before : (start : WorldState) (from : Places) (P ready : ℕ → MemberState → Type 0) (F : ℕ → Sent → Type 0) (outset : WorldState) (end count : ℕ) (now : WorldState) → TicksGuarded start from P ready F
+    → Goes tick_asked 1 outset end count now → now.lost ≡ false → Guards start from P F outset → EachNode ready outset → BeforeTick start from P ready F end now
+ticks_before start from P ready F outset end count now each goes whole g all = goes_keep tick_asked (BeforeTick start from P ready F) 1 outset end count now
     (λ number before made after above below taken clear b.
     let was_clear = takes_whole tick_asked number before made after taken clear in
     elim (tick_either number before made after taken clear) [
       | inl same ↦ no_tick start from P ready F number before after same b
       | inr ticked ↦ one_tick start from P ready F number before after ticked.0 each was_clear ticked.1 b
     ])
-    goes whole (record { guards = g; later = λ n m above there. all n m there }) in
-    last.guards
+    goes whole (record { guards = g; later = λ n m above there. all n m there })
+
+pub ticks_guarded : (start : WorldState) (from : Places) (P ready : ℕ → MemberState → Type 0) (F : ℕ → Sent → Type 0) (outset : WorldState) (count : ℕ) (now : WorldState) → TicksGuarded start from P ready F
+    → Goes tick_asked 1 outset numbers count now → now.lost ≡ false → Guards start from P F outset → EachNode ready outset → Guards start from P F now
+ticks_guarded start from P ready F outset count now each goes whole g all = (ticks_before start from P ready F outset numbers count now each goes whole g all).guards
+
+-- behind the tick of a node
+pub tick_guarded : (start : WorldState) (from : Places) (P ready : ℕ → MemberState → Type 0) (F : ℕ → Sent → Type 0) (outset now : WorldState) (n : ℕ) → TicksGuarded start from P ready F → (t : HasTickedOnce outset now n) → t.before.lost ≡ false
+    → Guards start from P F outset → EachNode ready outset → Guards start from P F t.after
+tick_guarded start from P ready F outset now n each t clear g all =
+    let b = ticks_before start from P ready F outset n t.earlier t.before each t.front clear g all in
+    (one_tick start from P ready F n t.before t.after t.answered each clear t.ticks b).guards
 
 -- ---- the arrivals of a round
 

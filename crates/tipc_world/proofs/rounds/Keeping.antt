@@ -32,7 +32,8 @@ use Rattle.tipc_replay.proofs.casts.Meeting.{becomes_met}
 use Rattle.tipc_replay.proofs.frames.AgedKept.{becomes_aged}
 use Rattle.tipc_replay.proofs.journals.KeptWorlds.{becomes_watched}
 use Rattle.tipc_replay.proofs.names.Sharing.{becomes_shared}
-use Rattle.tipc_replay.proofs.states.EndsKept.{becomes_bounded, becomes_named, becomes_numbers, becomes_right}
+use Rattle.tipc_replay.proofs.states.CastLinksKept.{becomes_cast}
+use Rattle.tipc_replay.proofs.states.EndsKept.{becomes_bounded, becomes_named, becomes_numbers, becomes_packed, becomes_right}
 use Rattle.tipc_replay.proofs.states.PlainKept.{becomes_plain}
 use Rattle.tipc_world.specs.declared.places.Places.{Places}
 use Rattle.tipc_world.specs.Limits.{IsAnswered}
@@ -62,9 +63,11 @@ becomes_steady old new by event answered lost can next h becomes =
       plain = becomes_plain old new by event answered lost becomes h.plain;
       aged = becomes_aged old new by event answered lost h.sound sound becomes h.aged;
       casts = becomes_casting old new by event answered lost h.sound h.met h.plain h.aged next becomes h.casts;
+      cast_links = becomes_cast old new by event answered lost can becomes h.cast_links;
       ends = becomes_right old new by event answered lost can becomes h.ends;
       bounded = becomes_bounded old new by event answered lost becomes h.bounded;
       numbers = becomes_numbers old new by event answered lost becomes h.numbers;
+      packed = becomes_packed old new by event answered lost becomes h.packed;
       originals = becomes_named old new by event answered lost becomes h.numbers h.originals;
     }
 
@@ -73,7 +76,7 @@ abbrev nodes_of : WorldState → ReplayState
 nodes_of w = record { members = w.members; air = w.air; lost = w.lost }
 
 -- a world is kept through an event
-answered_kept : (old new : WorldState) (event : WorldEvent) (answered : Answer) → CanHappenAt old.members event → HasNextBoot old.members event → IsAnswered old event new answered → IsKept old → IsKept new
+pub answered_kept : (old new : WorldState) (event : WorldEvent) (answered : Answer) → CanHappenAt old.members event → HasNextBoot old.members event → IsAnswered old event new answered → IsKept old → IsKept new
 answered_kept old new event answered can next done kept =
     let step = done.step in
     let happened : Steps (nodes_of old) (nodes_of new) old.stamps event answered = record { lost = step.lost; becomes = step.becomes; lost_is = step.lost_is } in

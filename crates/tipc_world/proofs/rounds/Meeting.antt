@@ -36,11 +36,12 @@ use Rattle.tipc_world.specs.Ends.{ends_of}
 use Rattle.tipc_world.specs.Poised.{IsDownWorld}
 use Rattle.tipc_world.specs.RisingWorlds.{AreSilentFor, AreUpsAnswered, IsRisingNode}
 use Rattle.tipc_world.specs.RoundParts.{HasTickedOnce, IsKept, IsRound}
-use Rattle.tipc_world.specs.Stages.{HasEnd, ShareBearer, TicksArriveYoung}
+use Rattle.tipc_world.specs.Stages.{HasEnd, ShareBearer}
 use Rattle.tipc_world.specs.States.{WorldState}
 use Rattle.tipc_world.specs.StillWorlds.{footing_at}
 use Rattle.tipc_world.specs.Steps.{by_in}
 use Rattle.tipc_world.proofs.rounds.CalmWorlds.{mended_since}
+use Rattle.tipc_world.proofs.rounds.FrameAges.{finds_young}
 use Rattle.tipc_world.proofs.rounds.Guarded.{RoundGuarded}
 use Rattle.tipc_world.proofs.rounds.HeardWorlds.{slice_there, unknown}
 use Rattle.tipc_world.proofs.rounds.Leaving.{ArrivalMakes, ArrivalsLeave, AtNode, round_leaves_first, round_leaves_second}
@@ -51,12 +52,11 @@ use Rattle.tipc_world.proofs.rounds.Stages.{number_of}
 use Rattle.tipc_world.proofs.rounds.StillWorlds.{node_number, sight_is}
 use Rattle.tipc_world.proofs.rounds.UpLinks.{near_is, other_is}
 
--- The first round of a call: it begins in a world in which no link is up, nothing is lost in it, and no frame of its ticks is too old when it arrives.
+-- The first round of a call: it begins in a world in which no link is up, and nothing is lost in it.
 pub record FirstRound (start : WorldState) (ends : Places) (now : WorldState) (r : IsRound (ends_of start.air) start ends now) : Type 0 where
   pub kept : IsKept start
   pub down : IsDownWorld start
   pub clear : start.lost ≡ false
-  pub young : TicksArriveYoung (ends_of start.air) start ends now r
   pub whole : now.lost ≡ false
 
 module _ (start : WorldState) (ends : Places) (now : WorldState) (r : IsRound (ends_of start.air) start ends now) (k : FirstRound start ends now r) where
@@ -196,7 +196,7 @@ module _ (start : WorldState) (ends : Places) (now : WorldState) (r : IsRound (e
       let f = airborne (contact_at t.before.members b) t.after.members b o in
       let at = tick_brings_first (ends_of start.air) start ends now r b n ask.place t o k.whole (omega arith, omega arith) n_is.1 shared.here ask.at ask.meant in
       round_leaves_first start (ends_of start.air) (IsRisingNode start 0) (IsFromMended start) (λ m. HasEnd b 0 m) (ends_of start.air) start ends now r at.place n f (omega arith, omega arith) at.behind (rising_arrival start 0 k.kept)
-      (stays_made n b 0) (request_makes n b 0 shared t) at.arrives (k.young.first at.place n f n_is at.behind at.arrives) k.whole guarded
+      (stays_made n b 0) (request_makes n b 0 shared t) at.arrives (let once = at.arrives in finds_young once.before.members f n 0 (request_from b t 0 b_is).1) k.whole guarded
   makes_ends n b (suc zero) shared =
       let n_is = number_of start n k.kept shared.here in
       let b_is = number_of start b k.kept shared.there in
@@ -206,5 +206,5 @@ module _ (start : WorldState) (ends : Places) (now : WorldState) (r : IsRound (e
       let f = airborne (contact_at t.before.members b) t.after.members b o in
       let at = tick_brings_second (ends_of start.air) start ends now r b n ask.place t o k.whole (omega arith, omega arith) n_is.1 shared.here ask.at ask.meant in
       round_leaves_second start (ends_of start.air) (IsRisingNode start 0) (IsFromMended start) (λ m. HasEnd b 1 m) (ends_of start.air) start ends now r at.place n f (omega arith, omega arith) at.behind (rising_arrival start 0 k.kept)
-      (stays_made n b 1) (request_makes n b 1 shared t) at.arrives (k.young.second at.place n f n_is at.behind at.arrives) k.whole guarded
+      (stays_made n b 1) (request_makes n b 1 shared t) at.arrives (let once = at.arrives in finds_young once.before.members f n 1 (request_from b t 1 b_is).1) k.whole guarded
   makes_ends n b (suc (suc more)) shared = absurd (let one = shared.on_one in omega (arith, one))

@@ -1,18 +1,14 @@
--- What an end in reset says at a tick is a RESET or an ACTIVATE that its receiver can read, and that is never too old.
-use Rattle.std.specs.Prelude.{if◌then◌else◌}
-use Rattle.std.proofs.Common.{◌≡◌, ◌≤◌, ◌<◌, ◌^◌, ◌∙◌, ℕ, Bool, true, false, List, Option, Some, None, drop, length, refl, sym, ap, subst, arith}
+-- What an end in reset says at a tick is a RESET or an ACTIVATE that its receiver can read.
+use Rattle.std.proofs.Common.{◌≡◌, ◌<◌, ◌^◌, ◌∙◌, ℕ, true, Option, Some, None, drop, refl, sym, ap, subst, arith}
 use Rattle.std.proofs.lemmas.Bool.{true≢false}
 use Rattle.std.proofs.lemmas.List.{drop_at}
 use Rattle.tipc_types.specs.Address.{node_word}
-use Rattle.tipc_types.specs.Limits.{most_age}
 use Rattle.tipc_types.specs.declared.link_words.LinkState.{LinkState}
 use Rattle.tipc_types.specs.declared.link_words.LinkState.TheVariants.{Held, ResetReset, ResetUnknown, WorkingUnknown, WorkingWorking}
 use Rattle.tipc_outside.specs.declared.outgoing.Outgoing.{Outgoing}
-use Rattle.tipc_header.specs.declared.fault.HeaderFault.{HeaderFault}
 use Rattle.tipc_header.specs.declared.frames.FrameKind.TheVariants.{Links}
 use Rattle.tipc_header.specs.declared.packet.Header.{Header}
 use Rattle.tipc_header.specs.declared.packet.Header.TheVariants as header
-use Rattle.tipc_header.specs.Faults.{fault_of}
 use Rattle.tipc_header.specs.Frames.{envelope, first_of, frame_of, kind_in, kind_of}
 use Rattle.tipc_header.specs.Grammar.{Fits}
 use Rattle.tipc_header.specs.Reading.{fields_at}
@@ -26,14 +22,9 @@ use Rattle.tipc_paired.specs.Views.{Node}
 use Rattle.tipc_paired.proofs.contacts.TellDeeds.{notice_fits, shown_fits}
 use Rattle.tipc_two_nodes.specs.Sights.{AreSeen, Sight}
 use Rattle.tipc_two_nodes.proofs.sights.Sights.{ends}
-use Rattle.tipc_node.specs.Nodes.{is_frame_size}
 use Rattle.tipc_node.specs.Turns.{IsFrom}
 use Rattle.tipc_settling.specs.Rises.{notice_in}
 use Rattle.tipc_settling.proofs.Sending.{framed_at}
-use Rattle.tipc_replay.specs.declared.air.Sent.{Sent}
-use Rattle.tipc_replay.specs.declared.flying.Aging.TheVariants as aging
-use Rattle.tipc_replay.specs.Due.{age_by, age_of, aging_by_fault, aging_by_kind, aging_of}
-use Rattle.tipc_replay.specs.States.{MemberState}
 
 -- an end in reset says ACTIVATE where it heard its peer's reset, or else RESET
 pub data IsSaidAs (e : LinkEnd) (o : Outgoing) : Type 0 where
@@ -56,7 +47,6 @@ said_as e reset = by e.fsm.state refl reset
 pub record IsNoticeFrom (b : ℕ) (e : LinkEnd) (h : Header) : Type 0 where
   pub from : IsFrom b (notice e h).frame e.fsm.own (known e.fsm.peer) (notice_fields e h)
   pub kind : kind_in (notice e h).frame ≡ Links
-  pub never : aging_of (notice e h).frame ≡ aging.Never
 
 read_back : (es er : ℕ) (p : Fields) → Fits p → fields_at (drop 16 (frame_of es er (spelling p))) ≡ p
 read_back es er p fits = ap fields_at (drop_at (envelope es er) (spelling p) 16 (length-envelope es er)) ∙ again p fits
@@ -70,20 +60,6 @@ activate_kind : (es er : ℕ) (e : LinkEnd) → Fits (notice_fields e (header.Ac
 unfolding kind_in
 activate_kind es er e fits =
     let p = notice_fields e (header.Activate (shown_by e)) in ap (λ (q : Fields). kind_of (first_of (frame_of es er (spelling p))) q.header) (read_back es er p fits)
-
--- a link packet of no session is never too old
-never_old : (bytes : List ℕ) (p : Fields) → kind_in bytes ≡ Links → fields_at (drop 16 bytes) ≡ p → aging_by_kind bytes Links p.header ≡ aging.Never → aging_of bytes ≡ aging.Never
-unfolding aging_of
-never_old bytes p kind reads none = by (is_frame_size (length bytes)) (fault_of (drop 16 bytes))
-  where
-    by : (size : Bool) (fault : Option HeaderFault) → (if size then aging_by_fault bytes fault else aging.Never) ≡ aging.Never
-    by true (Some fault) = refl
-    by true None = ap (λ k. aging_by_kind bytes k (fields_at (drop 16 bytes)).header) kind ∙ (ap (λ (q : Fields). aging_by_kind bytes Links q.header) reads ∙ none)
-    by false fault = refl
-
-pub age_none : (members : List (Option MemberState)) (f : Sent) (n bearer : ℕ) → aging_of f.frame ≡ aging.Never → age_of members f n bearer ≤ most_age
-unfolding age_of
-age_none members f n bearer never = (let none : age_by members f n bearer (aging_of f.frame) ≡ 0 = ap (age_by members f n bearer) never in omega (arith, none))
 
 known_fits : (n : Node) (bearer : ℕ) (e : LinkEnd) (o : Option ℕ) → IsEnd n bearer e → e.fsm.peer ≡ o → known o < 2 ^ 64
 known_fits n bearer e None end is = omega arith
@@ -113,7 +89,6 @@ module _ (v u : Sight) (b bearer : ℕ) (e : LinkEnd) (h : AreSeen v u) (own : v
       record {
         from = record { es_fits = own_fits; er_fits = peer_fits; fits = fits; frame_is = refl; previous = said_by };
         kind = kind;
-        never = never_old _ p kind (read_back e.fsm.own (known e.fsm.peer) p fits) refl;
       }
 
   pub activate_from : IsNoticeFrom b e (header.Activate (shown_by e))
@@ -124,5 +99,4 @@ module _ (v u : Sight) (b bearer : ℕ) (e : LinkEnd) (h : AreSeen v u) (own : v
       record {
         from = record { es_fits = own_fits; er_fits = peer_fits; fits = fits; frame_is = refl; previous = said_by };
         kind = kind;
-        never = never_old _ p kind (read_back e.fsm.own (known e.fsm.peer) p fits) refl;
       }

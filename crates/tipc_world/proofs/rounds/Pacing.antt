@@ -1,10 +1,13 @@
--- From a moment of a call on, while what ticks and arrives was sent before it: what each link acknowledged was numbered by then, its session goes on, and no
--- broadcast link accepts anything. So each link that is up numbers at most a window's packets.
-use Rattle.std.proofs.Common.{◌≡◌, ◌≢◌, ◌≤◌, ◌+◌, ◌∙◌, ℕ, zero, suc, true, List, [], Option, Some, None, slice_index_or, sym, ap, subst, arith}
+-- From a moment of a call on, while what ticks and arrives was sent before it: what each link acknowledged was numbered by then, so it numbers at most a
+-- window's packets. And in a calm world its session goes on, and no broadcast link accepts anything.
+use Rattle.std.proofs.Common.{◌≡◌, ◌≢◌, ◌≤◌, ◌+◌, ◌∙◌, ℕ, zero, suc, Bool, true, false, List, [], Option, Some, None, length, slice_index_or, inl, inr, refl, sym, ap, subst, arith}
 use Rattle.std.specs.Prelude.{◌==◌, if◌then◌else◌, map, slice_get}
+use Rattle.std.proofs.lemmas.Bool.{cases_lt}
+use Rattle.tipc_types.specs.Position.{number_of}
 use Rattle.tipc_types.specs.declared.node_calls.Answer.{Answer}
 use Rattle.tipc_types.specs.declared.node_calls.EventNote.{EventNote}
 use Rattle.tipc_types.specs.declared.node_calls.EventNote.TheVariants as note
+use Rattle.tipc_types.proofs.PositionLaws.{same_position}
 use Rattle.tipc_outside.specs.declared.outgoing.Outgoing.{Outgoing}
 use Rattle.tipc_header.specs.declared.frames.FrameKind.TheVariants.{Links}
 use Rattle.tipc_header.specs.Frames.{kind_in}
@@ -13,14 +16,16 @@ use Rattle.tipc_journal.specs.Steps.{NodeStep}
 use Rattle.tipc_broadcast.specs.Casting.{accepted}
 use Rattle.tipc_link.specs.Links.{LinkEnd, is_traffic}
 use Rattle.tipc_link.specs.Sessions.{SessionEnd}
-use Rattle.tipc_pair.specs.Facing.{PairEnds, facing, other, turned}
+use Rattle.tipc_pair.specs.Facing.{PairEnds, facing, is_up_at, other, turned}
 use Rattle.tipc_pair.specs.PairTurns.{Opening, Suits}
 use Rattle.tipc_pair.specs.PairTurns.Opening.{cuts, hears, makes, mends, rests, ticks}
-use Rattle.tipc_paired.specs.Views.{Frame, epoch_in}
-use Rattle.tipc_two_nodes.specs.Sights.{pair_seen}
+use Rattle.tipc_paired.specs.Views.{Frame, Node, epoch_in, epoch_on, session_on}
+use Rattle.tipc_paired.proofs.wires.Wires.{epoch_of_end, epoch_of_none, none_some, session_of_down, session_of_none}
+use Rattle.tipc_two_nodes.specs.Sights.{AreSeen, Sight, pair_seen}
 use Rattle.tipc_node.specs.Messages.{bytes_of}
 use Rattle.tipc_node.specs.Nodes.{pair_with}
-use Rattle.tipc_node.specs.Turns.{IsBrought, IsFrom}
+use Rattle.tipc_node.specs.Telling.{IsTold}
+use Rattle.tipc_node.specs.Turns.{IsBrought, IsFrom, NodeTurn}
 use Rattle.tipc_node.proofs.pairs.Strangers.{kept_abreast}
 use Rattle.tipc_settling.specs.Freshness.{AcknowledgesTo, AreAckedTo, IsAckedEnd, MayAcknowledge}
 use Rattle.tipc_settling.specs.Goings.{EndsGoOn, up_session}
@@ -44,15 +49,16 @@ use Rattle.tipc_world.specs.Ends.{ends_of}
 use Rattle.tipc_world.specs.Poised.{IsPoised}
 use Rattle.tipc_world.specs.RoundParts.{EachNode, FrameArrives, HappensWhole, IsKept}
 use Rattle.tipc_world.specs.States.{WorldState, is_there}
-use Rattle.tipc_world.specs.StillWorlds.{HasHeardAll, footing_at}
+use Rattle.tipc_world.specs.StillWorlds.{HasHeardAll, IsStillWorld, IsUnderPresent, footing_at}
 use Rattle.tipc_world.specs.YoungWorlds.{NumbersFew, casts_at, link_count}
 use Rattle.tipc_world.proofs.rounds.Beginning.{its_end}
-use Rattle.tipc_world.proofs.rounds.CalmEvents.{CalmTurn, by_arrival, may_arrive, step_of_arrival, step_of_tick, tick_turn}
+use Rattle.tipc_world.proofs.rounds.CalmEvents.{by_arrival, may_arrive, step_of_arrival, step_of_tick, tick_turn}
+use Rattle.tipc_world.proofs.rounds.CalmWorlds.{calm_is_still}
 use Rattle.tipc_world.proofs.rounds.CastsKept.{arrival_casts, tick_casts}
 use Rattle.tipc_world.proofs.rounds.Lasting.{ends_then, lasts_on, same_lasts, turn_lasts}
 use Rattle.tipc_world.proofs.rounds.StillWorlds.{node_number, seen_end, sender_there, sight_is, still_epoch}
-use Rattle.tipc_world.proofs.rounds.Traffic.{of_up_link}
-use Rattle.tipc_world.proofs.rounds.UpLinks.{UpSide, both_up, session_near, the_member, up_side}
+use Rattle.tipc_world.proofs.rounds.Traffic.{of_present}
+use Rattle.tipc_world.proofs.rounds.UpLinks.{UpSide, both_up, session_near, sight_near, still_side, the_member, up_side}
 
 -- ---- what is carried
 
@@ -90,23 +96,29 @@ may_acknowledge most x b event bytes (cuts bearer) suits brought heard = tt
 may_acknowledge most x b event bytes (ticks shown) suits brought heard = tt
 may_acknowledge most x b event bytes (hears bearer es er p by shown) suits brought heard = heard bearer by es er p suits brought.0 brought.1
 
-turn_acks : (start old : WorldState) (n b : ℕ) (m m' : MemberState) (bytes : List ℕ) (s : NodeStep) (frames : List Outgoing) (most : ℕ → ℕ) → CalmTurn start old n b m m' bytes s frames
+turn_acks : (b : ℕ) (m m' : MemberState) (bytes : List ℕ) (s : NodeStep) (frames : List Outgoing) (most : ℕ → ℕ) → IsTold m.node → NodeTurn m.node m'.node bytes s frames
     → ((bearer number es er : ℕ) (p : Fields) → s.event ≡ note.Arrive bearer number → IsFrom b bytes es er p → kind_in bytes ≡ Links → is_traffic p.header ≡ true → AcknowledgesTo (most bearer) (facing bearer (pair_with m.node b)).near p.acknowledgement)
     → AreAckedTo most (pair_with m.node b) → AreAckedTo most (pair_with m'.node b)
-turn_acks start old n b m m' bytes s frames most c heard h =
-    let p = c.turn.turns b in
+turn_acks b m m' bytes s frames most told turn heard h =
+    let p = turn.turns b in
     let x = pair_with m.node b in
-    let first = (kept_abreast m.node b c.told).first in
+    let first = (kept_abreast m.node b told).first in
     turns_acknowledge_no_more most x (pair_with m'.node b) p.opening (map (bytes_of m.node.own) p.messages) p.reply p.own_frames (omega (arith, first)) p.on_one
     (may_acknowledge most x b s.event bytes p.opening p.suits p.brought heard) p.turn h
 
 -- ---- a tick
 
+-- nothing is acknowledged at a tick
+pub tick_acks : (base old new : WorldState) (node : ℕ) (answered : Answer) (h : HappensWhole old new (Call node note.Tick) [] answered) (b : ℕ) → AreAckedTo (most_at base node b) (pair_with h.before.node b)
+    → AreAckedTo (most_at base node b) (pair_with h.after.node b)
+tick_acks base old new node answered h b acked =
+    turn_acks b h.before h.after [] (step_of_tick old new node answered h) h.frames (most_at base node b) h.does.turn.told_before h.does.turn.turn
+    (λ bearer place es er p is. absurd (let wrong : note.Tick ≡ note.Arrive bearer place = is in cc)) acked
+
 pub tick_paced : (start base old new : WorldState) (node : ℕ) (answered : Answer) (h : HappensWhole old new (Call node note.Tick) [] answered) → IsKept old → IsCalmWorld start old → HasHeardAll node h.before → IsPaced start base node h.before
     → IsPaced start base node h.after
 tick_paced start base old new node answered h kept g heard paced = record {
-  acked = λ b number apart. turn_acks start old node b h.before h.after [] (step_of_tick old new node answered h) h.frames (most_at base node b) (tick_turn start old new node answered h g heard b number apart)
-      (λ bearer place es er p is. absurd (let wrong : note.Tick ≡ note.Arrive bearer place = is in cc)) (paced.acked b number apart);
+  acked = λ b number apart. tick_acks base old new node answered h b (paced.acked b number apart);
   goes = λ k there b number apart. ends_then (pair_with k.node b) (pair_with h.before.node b) (pair_with h.after.node b) (paced.goes k there b number apart)
       (turn_lasts start old node b h.before h.after [] (step_of_tick old new node answered h) h.frames kept h.was number apart (g.nodes node h.before h.was b number apart) (tick_turn start old new node answered h g heard b number apart));
   casts = tick_casts _ h.before h.after h.frames answered h.does ∙ paced.casts;
@@ -122,15 +134,36 @@ count_side start w a b bearer m kept a_is b_is apart u =
     ap (count_at w.members a b bearer) (sym u.epoch) ∙ h.seen_here.counts bearer u.link.end u.session u.end_is u.has
 
 -- what was numbered at a moment, by the link
-most_is : (start base : WorldState) (n b bearer : ℕ) (m : MemberState) → IsKept base → IsCalmWorld start base → IsNumber b → n ≢ b → bearer ≤ 1 → slice_index_or base.members n None ≡ Some m → most_at base n b bearer ≡ link_count start base n b bearer
+most_is : (start base : WorldState) (n b bearer : ℕ) (m : MemberState) → IsKept base → bearer ≤ 1 → slice_index_or base.members n None ≡ Some m → IsStill (footing_at start n b) (footing_at start b n) (pair_with m.node b)
+    → most_at base n b bearer ≡ link_count start base n b bearer
 unfolding sight_at
-most_is start base n b bearer m kept g number apart on_one there =
+most_is start base n b bearer m kept on_one there still_pair =
     let own = footing_at start n b in
     let peer = footing_at start b n in
     let v = sight_at base.members base.air n b in
-    let still : IsStill own peer (pair_seen v) = subst (IsStill own peer) (sym (sight_is base n b m kept there)) (g.nodes n m there b number apart).still in
+    let still : IsStill own peer (pair_seen v) = subst (IsStill own peer) (sym (sight_is base n b m kept there)) still_pair in
     let epoch : epoch_in v.node.contact (v.ends bearer) ≡ own.epoch bearer = sym (seen_end v bearer on_one) ∙ still_epoch own peer v bearer on_one still in
     ap (count_at base.members n b bearer) epoch
+
+-- a link that isn't up has numbered nothing under the present epoch of its end
+unnumbered : (v w : Sight) (bearer : ℕ) (o : Option LinkEnd) → AreSeen v w → v.ends bearer ≡ o → is_up_at o ≡ false → v.numbered bearer (epoch_in v.node.contact o) ≡ 0
+unnumbered v w bearer o h is down =
+    let x = h.here.view in
+    let c = x.wires bearer in
+    let half = h.talking.twins.paired.here in
+    let epoch = epoch_in v.node.contact o in
+    let present : epoch_on x.node c ≡ epoch = epoch_is o (h.seen_here.ends bearer ∙ is) in
+    let none : session_on c ≡ None = none_on o (h.seen_here.ends bearer ∙ is) down in
+    let begun = (half.epochs bearer).unborn epoch (omega (arith, present), λ s on. absurd (none_some s (session_on c) none on)) in
+    h.seen_here.numbered bearer epoch ∙ ap (λ (line : List (List ℕ)). length line) ((half.wires bearer).unborn epoch begun)
+  where
+    epoch_is : (o : Option LinkEnd) → (h.here.view.wires bearer).end ≡ o → epoch_on h.here.view.node (h.here.view.wires bearer) ≡ epoch_in v.node.contact o
+    epoch_is None end = epoch_of_none h.here.view.node (h.here.view.wires bearer) end ∙ ap (λ (n : Node). n.contact) h.seen_here.node
+    epoch_is (Some e) end = epoch_of_end h.here.view.node (h.here.view.wires bearer) e end
+
+    none_on : (o : Option LinkEnd) → (h.here.view.wires bearer).end ≡ o → is_up_at o ≡ false → session_on (h.here.view.wires bearer) ≡ None
+    none_on None end down = session_of_none (h.here.view.wires bearer) end
+    none_on (Some e) end down = session_of_down (h.here.view.wires bearer) e end down
 
 -- the session of an end that was up at a moment, and of now
 pub same_session : (o : Option SessionEnd) (s t : SessionEnd) → o ≡ Some s → o ≡ Some t → s ≡ t
@@ -163,6 +196,31 @@ acked_on most x (suc (suc more)) e first on_one h near = absurd (omega (arith, o
 -- what a node's journal tells
 pub pair_first : (w : WorldState) (n b : ℕ) (m : MemberState) → IsKept w → slice_index_or w.members n None ≡ Some m → (pair_with m.node b).bearer ≡ 0
 pair_first w n b m kept there = (kept_abreast m.node b (kept.nodes.shared n m there).told).first
+
+-- a link that acknowledged no more than what was numbered at a moment has numbered at most a window's packets since
+pub few_since : (start base w : WorldState) (a b bearer : ℕ) (k m : MemberState) → IsKept base → IsKept w → IsNumber a → IsNumber b → a ≢ b → bearer ≤ 1
+    → slice_index_or base.members a None ≡ Some k → IsStill (footing_at start a b) (footing_at start b a) (pair_with k.node b) → slice_index_or w.members a None ≡ Some m → IsStill (footing_at start a b) (footing_at start b a) (pair_with m.node b)
+    → AreAckedTo (most_at base a b) (pair_with m.node b) → link_count start w a b bearer ≤ link_count start base a b bearer + 50
+few_since start base w a b bearer k m kept_base kept a_is b_is apart on_one was_there was_still there still acked = by (is_up_at (facing bearer (pair_with m.node b)).near) refl
+  where
+    most : most_at base a b bearer ≡ link_count start base a b bearer
+    most = most_is start base a b bearer k kept_base on_one was_there was_still
+
+    now_is : most_at w a b bearer ≡ link_count start w a b bearer
+    now_is = most_is start w a b bearer m kept on_one there still
+
+    by : (up : Bool) → is_up_at (facing bearer (pair_with m.node b)).near ≡ up → link_count start w a b bearer ≤ link_count start base a b bearer + 50
+    by true up =
+        let u = still_side start w a b bearer m kept b_is apart on_one there still up in
+        let end = acked_on (most_at base a b) (pair_with m.node b) bearer u.link.end (pair_first w a b m kept there) on_one acked u.link.near u.link.up u.session u.has in
+        let few = few_are_numbered (most_at base a b bearer) u.session.sending end in
+        let now = count_side start w a b bearer m kept a_is b_is apart u in
+        omega (arith, few, most, now)
+    by false down =
+        let v = sight_at w.members w.air a b in
+        let end : v.ends bearer ≡ (facing bearer (pair_with m.node b)).near = sym (sight_near v bearer on_one) ∙ ap (λ x. (facing bearer x).near) (sight_is w a b m kept there) in
+        let none : most_at w a b bearer ≡ 0 = unnumbered v (sight_at w.members w.air b a) bearer (v.ends bearer) (kept.nodes.sound.pairs a b a_is b_is apart) refl (ap is_up_at end ∙ down) in
+        omega (arith, none, now_is)
 
 -- the two ends of a link that was up, at a moment and now
 record Sides (start base w : WorldState) (a b bearer : ℕ) : Type 0 where
@@ -197,11 +255,8 @@ numbers_few start base w kept_start poised g_base g paced = record {
       (pair_first base a b p.was (g_base.on.kept kept_start) p.was_there) (pair_first w a b p.is (g.on.kept kept_start) p.is_there));
   few = λ a b bearer a_is b_is apart on_one up. (
       let p = sides start base w a b bearer kept_start poised g_base g a_is b_is apart on_one up in
-      let acked = acked_on (most_at base a b) (pair_with p.is.node b) bearer p.now.link.end (pair_first w a b p.is (g.on.kept kept_start) p.is_there) on_one ((paced a p.is p.is_there).acked b b_is apart) p.now.link.near p.now.link.up p.now.session p.now.has in
-      let few = few_are_numbered (most_at base a b bearer) p.now.session.sending acked in
-      let most = most_is start base a b bearer p.was (g_base.on.kept kept_start) g_base b_is apart on_one p.was_there in
-      let now = count_side start w a b bearer p.is (g.on.kept kept_start) a_is b_is apart p.now in
-      omega (arith, few, most, now));
+      few_since start base w a b bearer p.was p.is (g_base.on.kept kept_start) (g.on.kept kept_start) a_is b_is apart on_one p.was_there (g_base.nodes a p.was p.was_there b b_is apart).still p.is_there (g.nodes a p.is p.is_there b b_is apart).still
+      ((paced a p.is p.is_there).acked b b_is apart));
 }
 
 -- ---- an arrival
@@ -220,10 +275,18 @@ fresh_counts : (old : WorldState) (n b bearer er most : ℕ) → (sight_at old.m
 unfolding sight_at
 fresh_counts old n b bearer er most fresh = fresh
 
-arrival_acks : (start base : WorldState) → IsKept start → IsPoised start → IsCalmWorld start base → (old new : WorldState) (a : FrameArrives (ends_of start.air) old new) → IsCalmWorld start old
-    → IsFromMended start a.bearer a.frame → slice_get (air_on a.bearer base.air) a.place ≡ Some a.frame → IsPaced start base a.node a.arrives.before → is_there base a.node ≡ true → (b : ℕ) → IsNumber b → a.node ≢ b → (es er : ℕ) (p : Fields)
+-- Of two moments a frame acknowledges no more by the second one than by the first, where it isn't too old by then.
+no_later : (first second beside : ℕ) → number_of first ≡ number_of second → beside ≤ first + 50 → second ≤ beside + 30000 → second ≤ first
+no_later first second beside same recent fresh = elim (cases_lt first second) [
+  | inl less ↦ (let one = same_position first second (omega (arith, recent, fresh)) (omega (arith, less)) same in omega (arith, one))
+  | inr from ↦ omega (arith, from)
+]
+
+-- What arrives was sent before a moment, so it acknowledges no more than what was numbered by then.
+acknowledges : (start base : WorldState) → IsKept start → IsStillWorld start base → (old new : WorldState) (a : FrameArrives (ends_of start.air) old new) → IsStillWorld start old → IsUnderPresent start a.bearer a.frame
+    → slice_get (air_on a.bearer base.air) a.place ≡ Some a.frame → is_there base a.node ≡ true → (b : ℕ) → IsNumber b → a.node ≢ b → (es er : ℕ) (p : Fields)
     → IsFrom b a.frame.frame es er p → kind_in a.frame.frame ≡ Links → is_traffic p.header ≡ true → AcknowledgesTo (most_at base a.node b a.bearer) (facing a.bearer (pair_with a.arrives.before.node b)).near p.acknowledgement
-arrival_acks start base kept_start poised g_base old new a g said stood paced here b number apart es er p brings kind_is traffic =
+acknowledges start base kept_start g_base old new a g said stood here b number apart es er p brings kind_is traffic =
     let n = a.node in
     let bearer = a.bearer in
     let f = a.frame in
@@ -233,49 +296,52 @@ arrival_acks start base kept_start poised g_base old new a g said stood paced he
     let back : b ≢ n = λ same. apart (sym same) in
     let sent_by = sender_there old n bearer a.place f b es er p kept a.found brings kind_is in
     let sender = the_member (slice_index_or old.members b None) sent_by.there in
-    let link = of_up_link start old b n bearer sent_by.place f sender.0 es er p kept_start g said number n_is back a.on_one sent_by.goes_here sender.1 sent_by.sent brings traffic in
+    let link = of_present start old b n bearer sent_by.place f sender.0 es er p kept_start g said number n_is back a.on_one sent_by.goes_here sender.1 sent_by.sent brings traffic in
     let stood_at = sent_then base b n bearer a.place f stood sent_by.goes_here in
-    let told = air_acknowledges_numbered (sight_at base.members base.air n b) (sight_at base.members base.air b n) stood_at.0 (as_frame bearer f) es er p (kept_base.nodes.sound.pairs n b n_is number apart) stood_at.1 brings.es_fits brings.er_fits brings.fits brings.frame_is traffic in
+    let earlier = air_acknowledges_numbered (sight_at base.members base.air n b) (sight_at base.members base.air b n) stood_at.0 (as_frame bearer f) es er p (kept_base.nodes.sound.pairs n b n_is number apart) stood_at.1 brings.es_fits brings.er_fits brings.fits brings.frame_is traffic in
+    let told = air_acknowledges_numbered (sight_at old.members old.air n b) (sight_at old.members old.air b n) sent_by.place (as_frame bearer f) es er p (kept.nodes.sound.pairs n b n_is number apart) sent_by.sent brings.es_fits brings.er_fits brings.fits brings.frame_is traffic in
     let came = comes_as (stage old.members old.air) n bearer a.place f b es er p kept.nodes.sound a.found (may_arrive old.members old.air n bearer a.place f a.found a.fresh) brings kind_is in
-    let fresh = came.0.own_fresh traffic in
     let beside : came.0.frame.peer_numbered ≡ f.peer_numbered = ap (λ (q : Frame). q.peer_numbered) came.1 in
-    let up = both_up start b n bearer kept_start poised back a.on_one link.up in
-    let k = the_member (slice_index_or base.members n None) here in
-    let before = up_side start base n b bearer k.0 kept_base number apart a.on_one k.1 (g_base.nodes n k.0 k.1 b number apart) up.0 in
-    let now = up_side start old n b bearer a.arrives.before kept number apart a.on_one a.arrives.was (g.nodes n a.arrives.before a.arrives.was b number apart) up.0 in
-    let first = pair_first base n b k.0 kept_base k.1 in
-    let first' = pair_first old n b a.arrives.before kept a.arrives.was in
-    let grew = counts_on start base old n b bearer k.0 a.arrives.before kept_base kept n_is number apart a.on_one before now (paced.goes k.0 k.1 b number apart) first first' in
-    let most = most_is start base n b bearer k.0 kept_base g_base number apart a.on_one k.1 in
-    let no_more = told_counts base n b bearer er told.0 told.2 in
-    let at : count_at base.members n b bearer er ≡ link_count start base n b bearer = ap (count_at base.members n b bearer) link.er_is in
-    let fresh_count = fresh_counts old n b bearer er came.0.frame.peer_numbered fresh in
-    let at_old : count_at old.members n b bearer er ≡ link_count start old n b bearer = ap (count_at old.members n b bearer) link.er_is in
+    let fresh = fresh_counts old n b bearer er came.0.frame.peer_numbered (came.0.own_fresh traffic) in
+    let by_then = told_counts base n b bearer er earlier.0 earlier.2 in
+    let by_now = told_counts old n b bearer er told.0 told.2 in
     let recent = told.3 in
+    let less = no_later earlier.0 told.0 f.peer_numbered (sym earlier.1 ∙ told.1) earlier.3 (omega (arith, by_now, fresh, beside)) in
+    let k = the_member (slice_index_or base.members n None) here in
+    let most = most_is start base n b bearer k.0 kept_base a.on_one k.1 (g_base.nodes n k.0 k.1 b number apart) in
+    let at : count_at base.members n b bearer er ≡ link_count start base n b bearer = ap (count_at base.members n b bearer) link.er_is in
+    let at_old : count_at old.members n b bearer er ≡ link_count start old n b bearer = ap (count_at old.members n b bearer) link.er_is in
     record {
       told = told.0;
       told_is = told.1;
-      no_more = omega (arith, no_more, at, most);
+      no_more = omega (arith, less, by_then, at, most);
       lately = λ e s near e_up has. (
+          let now = still_side start old n b bearer a.arrives.before kept number apart a.on_one a.arrives.was (g.nodes n a.arrives.before a.arrives.was b number apart) (ap is_up_at near ∙ e_up) in
           let same : now.link.end ≡ e = (let both : Some now.link.end ≡ Some e = sym now.link.near ∙ near in cc) in
           let own : now.session ≡ s = same_session e.session now.session s (ap (λ (q : LinkEnd). q.session) (sym same) ∙ now.has) has in
           let count = count_side start old n b bearer a.arrives.before kept n_is number apart now in
           let numbered : now.session.sending.numbered ≡ s.sending.numbered = ap (λ (q : SessionEnd). q.sending.numbered) own in
-          (omega (arith, no_more, at, grew, count, numbered), omega (arith, fresh_count, beside, recent, at_old, count, numbered)));
+          (omega (arith, by_now, at_old, count, numbered), omega (arith, fresh, beside, recent, at_old, count, numbered)));
     }
+
+pub arrival_acks : (start base : WorldState) → IsKept start → IsStillWorld start base → (old new : WorldState) (a : FrameArrives (ends_of start.air) old new) → IsStillWorld start old → IsUnderPresent start a.bearer a.frame
+    → slice_get (air_on a.bearer base.air) a.place ≡ Some a.frame → is_there base a.node ≡ true → (b : ℕ) → IsNumber b → a.node ≢ b → AreAckedTo (most_at base a.node b) (pair_with a.arrives.before.node b)
+    → AreAckedTo (most_at base a.node b) (pair_with a.arrives.after.node b)
+arrival_acks start base kept g_base old new a g said stood here b number apart acked =
+    let t = a.arrives.does.turn in
+    turn_acks b a.arrives.before a.arrives.after a.frame.frame (step_of_arrival start old new a) a.arrives.frames (most_at base a.node b) t.told_before t.turn
+    (λ bearer place es er p is brings kind_is traffic. (
+    let arrives : note.Arrive a.bearer _ ≡ note.Arrive bearer place = is in
+    let on : a.bearer ≡ bearer = cc in
+    subst (λ k. AcknowledgesTo (most_at base a.node b k) (facing k (pair_with a.arrives.before.node b)).near p.acknowledgement) on
+    (acknowledges start base kept g_base old new a g said stood here b number apart es er p brings kind_is traffic))) acked
 
 pub arrival_paced : (start base : WorldState) → IsKept start → IsPoised start → IsCalmWorld start base → (old new : WorldState) (a : FrameArrives (ends_of start.air) old new) → IsCalmWorld start old
     → IsFromMended start a.bearer a.frame → slice_get (air_on a.bearer base.air) a.place ≡ Some a.frame → is_there base a.node ≡ true → IsPaced start base a.node a.arrives.before → IsPaced start base a.node a.arrives.after
 arrival_paced start base kept poised g_base old new a g said stood here paced = record {
-  acked = λ b number apart. by_arrival start kept poised old new a g said b number apart (AreAckedTo (most_at base a.node b) (pair_with a.arrives.after.node b))
-      (λ same. subst (AreAckedTo (most_at base a.node b)) (sym same) (paced.acked b number apart))
-      (λ c. turn_acks start old a.node b a.arrives.before a.arrives.after a.frame.frame (step_of_arrival start old new a) a.arrives.frames (most_at base a.node b) c
-      (λ bearer place es er p is brings kind_is traffic. (
-      let arrives : note.Arrive a.bearer _ ≡ note.Arrive bearer place = is in
-      let on : a.bearer ≡ bearer = cc in
-      subst (λ k. AcknowledgesTo (most_at base a.node b k) (facing k (pair_with a.arrives.before.node b)).near p.acknowledgement) on
-      (arrival_acks start base kept poised g_base old new a g said stood paced here b number apart es er p brings kind_is traffic)))
-      (paced.acked b number apart));
+  acked = λ b number apart. (
+      let under : IsUnderPresent start a.bearer a.frame = λ s d s_is d_is two goes_to. (said s d s_is d_is two goes_to).present in
+      arrival_acks start base kept (calm_is_still start base g_base) old new a (calm_is_still start old g) under stood here b number apart (paced.acked b number apart));
   goes = λ k there b number apart. ends_then (pair_with k.node b) (pair_with a.arrives.before.node b) (pair_with a.arrives.after.node b) (paced.goes k there b number apart)
       (by_arrival start kept poised old new a g said b number apart (EndsGoOn (pair_with a.arrives.before.node b) (pair_with a.arrives.after.node b)) (same_lasts (pair_with a.arrives.before.node b) (pair_with a.arrives.after.node b))
       (λ c. turn_lasts start old a.node b a.arrives.before a.arrives.after a.frame.frame (step_of_arrival start old new a) a.arrives.frames (g.on.kept kept) a.arrives.was number apart (g.nodes a.node a.arrives.before a.arrives.was b number apart) c));

@@ -1,28 +1,26 @@
 -- A world that went on calm from a poised one is poised again: the same links stand, and the same are cut.
-use Rattle.std.specs.Prelude.{◌==◌, ◌||◌, ◌⊎◌, if◌then◌else◌, option_and_then, OnOk}
-use Rattle.std.proofs.Common.{◌≡◌, ◌≢◌, ◌≤◌, ◌∙◌, ℕ, zero, suc, Bool, true, false, Option, Some, None, Result, Ok, Err, slice_index_or, is_some, inl, inr, refl, sym, ap, subst, arith}
+use Rattle.std.specs.Prelude.{◌==◌, ◌⊎◌, if◌then◌else◌, option_and_then, OnOk}
+use Rattle.std.proofs.Common.{◌≡◌, ◌≢◌, ◌≤◌, ◌∙◌, ℕ, zero, suc, true, false, Option, Some, None, Result, Ok, Err, slice_index_or, is_some, inl, inr, refl, sym, ap, subst, arith}
 use Rattle.std.proofs.lemmas.Bool.{cases_eq, cases_lt}
 use Rattle.std.proofs.lemmas.Bool.Decides.{nat_tests}
 use Rattle.tipc_link.specs.Links.{LinkEnd}
 use Rattle.tipc_pair.specs.Facing.{PairEnds, contact_between, facing, is_up_at}
 use Rattle.tipc_pair.specs.LinkReadings.{silence_in}
 use Rattle.tipc_pair.proofs.Facings.{facing_far, facing_near}
-use Rattle.tipc_paired.specs.Views.{epoch_in, fsm_in}
-use Rattle.tipc_settling.specs.Stillness.{AreHeard, Footing, IsStill, IsStillAt}
+use Rattle.tipc_paired.specs.Views.{epoch_in}
+use Rattle.tipc_settling.specs.Stillness.{AreHeard, IsStill}
 use Rattle.tipc_node.specs.Nodes.{pair_with}
 use Rattle.tipc_node.proofs.pairs.Strangers.{kept_abreast}
 use Rattle.tipc_replay.specs.Numbers.{end_on}
 use Rattle.tipc_replay.specs.Sound.{IsNumber}
 use Rattle.tipc_replay.specs.States.{MemberState, contact_at, has_member, is_link_up_at, link_at, pair_at}
 use Rattle.tipc_replay.specs.Views.{sight_at}
-use Rattle.tipc_replay.proofs.LookUps.{member_at-is}
 use Rattle.tipc_replay.proofs.SoundWorlds.{absent_pair}
 use Rattle.tipc_replay.proofs.calls.Calls.{the_some}
-use Rattle.tipc_replay.proofs.casts.CasterLooks.{contact_at-is}
 use Rattle.tipc_world.specs.declared.faults.WorldFault.{WorldFault}
 use Rattle.tipc_world.specs.declared.places.Places.{Places}
 use Rattle.tipc_world.specs.declared.settling.Settled.{Settled}
-use Rattle.tipc_world.specs.CalmWorlds.{IsCalmPair, IsCalmWorld}
+use Rattle.tipc_world.specs.CalmWorlds.{IsCalmWorld}
 use Rattle.tipc_world.specs.HeardWorlds.{StandsCalm}
 use Rattle.tipc_world.specs.Poised.{IsPoised, IsUpTowards, LinkIsCut, LinkStands, StaysPoised}
 use Rattle.tipc_world.specs.RoundParts.{IsKept}
@@ -31,6 +29,7 @@ use Rattle.tipc_world.specs.States.{WorldState}
 use Rattle.tipc_world.specs.StillWorlds.{footing_at}
 use Rattle.tipc_world.proofs.Staying.{absent_at}
 use Rattle.tipc_world.proofs.rounds.CalmWorlds.{call_begins_calm}
+use Rattle.tipc_world.proofs.rounds.Contacts.{contact_with_footings}
 use Rattle.tipc_world.proofs.rounds.HeardWorlds.{call_stays_calm, present_end, told_of}
 use Rattle.tipc_world.proofs.rounds.StillWorlds.{sight_is}
 use Rattle.tipc_world.proofs.rounds.UpLinks.{sight_near, still_knows, up_there}
@@ -89,45 +88,11 @@ links_stay start now a b bearer kept calm on_one = elim (paired_or_none a b) [
 
 -- ---- contacts
 
-end_sees : (own peer : Footing) (seen bearer : ℕ) (o : Option LinkEnd) → IsStillAt own peer seen bearer (fsm_in o) → is_up_at o ≡ true → seen ≡ peer.contact
-end_sees own peer seen bearer None still up = absurd cc
-end_sees own peer seen bearer (Some e) still up = still.contact (still.up up)
-
--- a contact of these numbers
-abbrev met : ℕ → ℕ → Option (ℕ × ℕ)
-met own theirs = Some (own, theirs)
-
--- the contact of a calm pair is that of its footings
-contact_stays : (own peer : Footing) (x : PairEnds) → x.bearer ≡ 0 → IsCalmPair own peer x → contact_between x ≡ (if own.up 0 || own.up 1 then met own.contact peer.contact else None)
-contact_stays own peer x first calm =
-    by (is_up_at x.near) (is_up_at x.far) refl refl ∙ ap (λ t. if t then met own.contact peer.contact else None) (ap (λ t. t || is_up_at x.far) near ∙ ap (λ t. own.up 0 || t) far)
-  where
-    near : is_up_at x.near ≡ own.up 0
-    near = ap (λ (y : PairEnds). is_up_at y.near) (sym (facing_near 0 x first)) ∙ calm.ups 0 (omega arith)
-
-    far : is_up_at x.far ≡ own.up 1
-    far = (let differs : (x.bearer == 1) ≡ false = grind (arith, nat_tests, first) in ap (λ (y : PairEnds). is_up_at y.near) (sym (facing_far 1 x differs)) ∙ calm.ups 1 (omega arith))
-
-    numbers : x.seen ≡ peer.contact → met x.contact x.seen ≡ met own.contact peer.contact
-    numbers seen = ap (λ k. met k x.seen) calm.still.contact ∙ ap (met own.contact) seen
-
-    by : (s t : Bool) → is_up_at x.near ≡ s → is_up_at x.far ≡ t → (if s || t then met x.contact x.seen else None) ≡ (if s || t then met own.contact peer.contact else None)
-    by true true up up_too = numbers (end_sees own peer x.seen x.bearer x.near calm.still.near up)
-    by true false up down = numbers (end_sees own peer x.seen x.bearer x.near calm.still.near up)
-    by false true down up = numbers (end_sees own peer x.seen _ x.far calm.still.far up)
-    by false false down down_too = refl
-
 none_met : (start now : WorldState) (a b : ℕ) → pair_at now.members a b ≡ None → pair_at start.members a b ≡ None → contact_at now.members a b ≡ contact_at start.members a b
 unfolding contact_at
 none_met start now a b none was = ap (option_and_then contact_between) (none ∙ sym was)
 
-contact_with_footings : (start w : WorldState) (a b : ℕ) (m : MemberState) → IsKept w → IsCalmWorld start w → slice_index_or w.members a None ≡ Some m → IsNumber b → a ≢ b
-    → contact_at w.members a b ≡ (if (footing_at start a b).up 0 || (footing_at start a b).up 1 then met (footing_at start a b).contact (footing_at start b a).contact else None)
-contact_with_footings start w a b m kept calm there number apart =
-    contact_at-is w.members a b m (member_at-is w.members a m there)
-    ∙ contact_stays (footing_at start a b) (footing_at start b a) (pair_with m.node b) (kept_abreast m.node b (told_of w a m kept there)).first (calm.nodes a m there b number apart)
-
-contacts_stay : (start now : WorldState) (a b : ℕ) → IsKept start → IsPoised start → IsCalmWorld start now → contact_at now.members a b ≡ contact_at start.members a b
+pub contacts_stay : (start now : WorldState) (a b : ℕ) → IsKept start → IsPoised start → IsCalmWorld start now → contact_at now.members a b ≡ contact_at start.members a b
 contacts_stay start now a b kept poised calm = elim (paired_or_none a b) [
   | inr none ↦ none_met start now a b (none now (calm.on.kept kept)) (none start kept)
   | inl two ↦ by two.0 two.1 (slice_index_or now.members a None) refl

@@ -372,7 +372,7 @@ module _ {start : WorldState} {places : Places} {outset : WorldState} {ends : Pl
       let both = and_parts (f.from.word == node_word a) (is_to b f.to && is_of_link f.frame) q.goes_there in
       let meant = goes_for f.from f.to b (and_parts (is_to b f.to) (is_of_link f.frame) both.1).0 in
       let traffic = numbered_traffic q.packet (number_of position) q.bytes q.carries in
-      let h = frame_heard start places outset ends now r a b bearer way.place f q.packet k a_is b_is back on_one back_up way.behind (found_here r.ticked b bearer way.place f stands meant) q.from q.kind traffic in
+      let h = (frame_heard start places outset ends now r a b bearer way.place f q.packet k a_is b_is back on_one back_up way.behind (found_here r.ticked b bearer way.place f stands meant) q.from q.kind traffic).0 in
       let went = told_went m s q.packet there is h in
       let due_now = due_on position s h.sides.there.session went due in
       let sends = h.sides.receives in

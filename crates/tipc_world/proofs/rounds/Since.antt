@@ -21,8 +21,7 @@ use Rattle.tipc_replay.specs.Sound.{IsNumber}
 use Rattle.tipc_replay.specs.States.{MemberState, boot_at, cast_count_at, contact_at, count_at}
 use Rattle.tipc_replay.proofs.InLists.{all_at}
 use Rattle.tipc_replay.proofs.LookUps.{boot_at-is, member_at-is}
-use Rattle.tipc_replay.proofs.casts.CasterLooks.{cast_count_at-is, casting_at-is}
-use Rattle.tipc_replay.proofs.casts.OwnLaw.{count_present}
+use Rattle.tipc_replay.proofs.casts.CasterLooks.{cast_count_at-is, casting_at-is, count_present}
 use Rattle.tipc_replay.proofs.frames.Emissions.{receiver_is}
 use Rattle.tipc_world.specs.CalmWorlds.{IsCalmWorld, IsFromMended}
 use Rattle.tipc_world.specs.RoundParts.{EachNode, IsKept}
@@ -57,7 +56,7 @@ casts_nothing start base w paced n here =
     ap (λ (v : Casting). accepted v.sending) (casting_at-is w.members n m.0 (member_at-is w.members n m.0 m.1)) ∙ (paced n m.0 m.1).casts
 
 -- what stands beside a frame of a node's broadcast
-cast_beside : (start w : WorldState) (n : ℕ) → IsKept w → CastsNothing start w → is_there w n ≡ true → IsNumber n → casts_at start n ≤ cast_count_at w.members n (boot_at w.members n) + 246
+pub cast_beside : (start w : WorldState) (n : ℕ) → IsKept w → CastsNothing start w → is_there w n ≡ true → IsNumber n → casts_at start n ≤ cast_count_at w.members n (boot_at w.members n) + 246
 cast_beside start w n kept casts here number =
     let m = the_member (slice_index_or w.members n None) here in
     let few = few_wait w n kept number in

@@ -1,10 +1,12 @@
 -- Each round in which all ends are made takes the ends on each shared bearer one step further: they see the contact number, answer, and are up.
 use Rattle.std.specs.List.{filter}
-use Rattle.std.proofs.Common.{◌≡◌, ◌≢◌, ◌≤◌, ◌+◌, ◌*◌, ◌∙◌, ℕ, zero, suc, true, [], Some, None, length, slice_get, slice_index_or, sym, subst, arith}
+use Rattle.std.proofs.Common.{◌≡◌, ◌≢◌, ◌≤◌, ◌+◌, ◌*◌, ◌∙◌, ℕ, zero, suc, true, List, [], Some, None, length, slice_get, slice_index_or, eqb-true, sym, subst, arith}
 use Rattle.tipc_types.specs.Address.{node_word}
 use Rattle.tipc_types.specs.declared.node_calls.Answer.TheVariants as answer
 use Rattle.tipc_types.specs.declared.node_calls.EventNote.TheVariants as note
 use Rattle.tipc_outside.specs.declared.outgoing.Outgoing.{Outgoing}
+use Rattle.tipc_header.specs.declared.frames.FrameKind.TheVariants.{Links}
+use Rattle.tipc_header.specs.Frames.{kind_in}
 use Rattle.tipc_pair.specs.Facing.{PairEnds}
 use Rattle.tipc_settling.specs.Beginnings.{standing}
 use Rattle.tipc_settling.specs.Stillness.{AreHeard, Footing, IsStill}
@@ -20,6 +22,7 @@ use Rattle.tipc_replay.specs.Air.{airborne, is_on}
 use Rattle.tipc_replay.specs.Due.{is_for}
 use Rattle.tipc_replay.specs.Sound.{IsNumber}
 use Rattle.tipc_replay.specs.States.{MemberState, contact_at}
+use Rattle.tipc_replay.proofs.InLists.{stands_passed}
 use Rattle.tipc_replay.proofs.calls.Calls.{the_some}
 use Rattle.tipc_replay.proofs.calls.Outcomes.{some_is}
 use Rattle.tipc_replay.proofs.frames.Reaching.{placed}
@@ -28,17 +31,19 @@ use Rattle.tipc_world.specs.CalmWorlds.{IsFromMended}
 use Rattle.tipc_world.specs.Courses.{numbers}
 use Rattle.tipc_world.specs.Ends.{ends_of}
 use Rattle.tipc_world.specs.RisingWorlds.{AreSilentFor, IsRisingWorld}
-use Rattle.tipc_world.specs.RoundParts.{FrameArrives, Guards, HasTickedOnce, IsKept, IsRound}
+use Rattle.tipc_world.specs.RoundParts.{EachNode, FrameArrives, Guards, HasTickedOnce, IsKept, IsRound}
 use Rattle.tipc_world.specs.Stages.{IsMetNode, IsMetWorld, ShareBearer, MetRound}
 use Rattle.tipc_world.specs.States.{WorldState, is_there}
-use Rattle.tipc_world.specs.StillWorlds.{IsUnderPresent, footing_at}
+use Rattle.tipc_world.specs.StillWorlds.{HasHeardAll, IsStillWorld, IsUnderPresent, footing_at}
 use Rattle.tipc_world.specs.Steps.{by_in}
 use Rattle.tipc_world.proofs.rounds.Guarded.{ArrivalsGuarded, RoundGuarded, TicksGuarded, place_there, round_guarded}
 use Rattle.tipc_world.proofs.rounds.Leaving.{ArrivalMakes, ArrivalsLeave, AtNode, arrivals_leave, round_leaves_first, round_leaves_second}
+use Rattle.tipc_world.proofs.rounds.Pacing.{pair_first}
 use Rattle.tipc_world.proofs.rounds.Parts.{goes_whole}
 use Rattle.tipc_world.proofs.rounds.Rising.{heard_all, rising_arrival, rising_is_still, rising_tick}
 use Rattle.tipc_world.proofs.rounds.RoundLaws.{round_ticks, tick_brings_first, tick_brings_second}
 use Rattle.tipc_world.proofs.rounds.StillWorlds.{node_number, shows_present}
+use Rattle.tipc_world.proofs.rounds.TickAges.{young_first, young_second}
 
 -- ---- worlds whose ends are made
 
@@ -141,6 +146,10 @@ lasts_arrivals start most step n b Q kept number apart lasts old new a g next he
 
 -- ---- one round
 
+-- what stands among the frames on a bearer is on it
+on_bearer : (frames : List Outgoing) (bearer place : ℕ) (o : Outgoing) → slice_get (filter (is_on bearer) frames) place ≡ Some o → o.bearer ≡ bearer
+on_bearer frames bearer place o at = eqb-true o.bearer bearer (stands_passed (is_on bearer) frames o (place, at)).1
+
 module _ (start : WorldState) (most step : ℕ) (places : Places) (outset : WorldState) (ends : Places) (now : WorldState) (r : IsRound places outset ends now) (k : MetRound start most step places outset ends now r) where
   longer : Guards start (ends_of start.air) (IsMetNode start (most + 1) step) (IsFromMended start) outset
   longer =
@@ -196,28 +205,35 @@ module _ (start : WorldState) (most step : ℕ) (places : Places) (outset : Worl
     pub at : slice_get (filter (is_on bearer) t.ticks.frames) place ≡ Some o
     pub meant : is_for (record { word = node_word b }) o.to n ≡ true
 
-  -- it leaves node n so at the end of the round, where its arrival makes it so and all others leave it so
-  pub brings_it : (b n bearer : ℕ) (t : HasTickedOnce outset r.ticked b) (o : Outgoing) (Q : PairEnds → Type 0) → ShareBearer start n b bearer → IsAmong b n bearer t o
+  -- no node was silent for long when the round began
+  heard_outset : EachNode HasHeardAll outset
+  heard_outset n m there = heard_all most n m k.few (λ j. pair_first outset n j m (k.met.on.kept k.kept) there) (λ b number apart. ((k.met.nodes n m there).rising b number apart).silent)
+
+  still_outset : IsStillWorld start outset
+  still_outset = rising_is_still start most outset (met_rises start most step outset k.met)
+
+  -- A frame of the link leaves node n so at the end of the round, where its arrival makes it so and all others leave it so.
+  pub brings_it : (b n bearer : ℕ) (t : HasTickedOnce outset r.ticked b) (o : Outgoing) (Q : PairEnds → Type 0) → ShareBearer start n b bearer → IsAmong b n bearer t o → kind_in o.frame ≡ Links
       → ArrivalsLeave start (ends_of start.air) (IsMetNode start (most + 1) step) (IsFromMended start) n (λ m. Q (pair_with m.node b))
       → ArrivalMakes start (ends_of start.air) (IsMetNode start (most + 1) step) (IsFromMended start) (λ m. Q (pair_with m.node b)) bearer n (airborne (contact_at t.before.members b) t.after.members b o)
       → AtNode n (λ m. Q (pair_with m.node b)) now
-  brings_it b n zero t o Q shared among leave makes =
+  brings_it b n zero t o Q shared among kind leave makes =
       let n_is = number_at n shared.here in
       let f = airborne (contact_at t.before.members b) t.after.members b o in
       let at = tick_brings_first places outset ends now r b n among.place t o k.whole k.within n_is.1 (there_at n shared.here) among.at among.meant in
       let from_places : places.first ≤ at.place = (let one = k.within.0 in let two = at.behind in omega (arith, one, two)) in
       round_leaves_first start (ends_of start.air) (IsMetNode start (most + 1) step) (IsFromMended start) (λ m. Q (pair_with m.node b)) places outset ends now r at.place n f k.behind from_places (met_arrival start (most + 1) step k.kept)
-      leave makes at.arrives (k.young.first at.place n f n_is at.behind at.arrives) k.whole guards
-  brings_it b n (suc zero) t o Q shared among leave makes =
+      leave makes at.arrives (young_first start places outset ends now k.kept k.behind r k.whole still_outset heard_outset b n at.place t o (on_bearer t.ticks.frames 0 among.place o among.at) kind shared.here n_is at.arrives) k.whole guards
+  brings_it b n (suc zero) t o Q shared among kind leave makes =
       let n_is = number_at n shared.here in
       let f = airborne (contact_at t.before.members b) t.after.members b o in
       let at = tick_brings_second places outset ends now r b n among.place t o k.whole k.within n_is.1 (there_at n shared.here) among.at among.meant in
       let from_places : places.second ≤ at.place = (let one = k.within.1 in let two = at.behind in omega (arith, one, two)) in
       round_leaves_second start (ends_of start.air) (IsMetNode start (most + 1) step) (IsFromMended start) (λ m. Q (pair_with m.node b)) places outset ends now r at.place n f k.behind from_places (met_arrival start (most + 1) step k.kept)
-      leave makes at.arrives (k.young.second at.place n f n_is at.behind at.arrives) k.whole guards
-  brings_it b n (suc (suc more)) t o Q shared among leave makes = absurd (let one = shared.on_one in omega (arith, one))
+      leave makes at.arrives (young_second start places outset ends now k.kept k.behind r k.whole still_outset heard_outset b n at.place t o (on_bearer t.ticks.frames 1 among.place o among.at) kind shared.here n_is at.arrives) k.whole guards
+  brings_it b n (suc (suc more)) t o Q shared among kind leave makes = absurd (let one = shared.on_one in omega (arith, one))
 
-  pub brings : (b n bearer : ℕ) (t : HasTickedOnce outset r.ticked b) (o : Outgoing) (Q : PairEnds → Type 0) → ShareBearer start n b bearer → IsAmong b n bearer t o → Lasts (footing_at start n b) (footing_at start b n) Q
+  pub brings : (b n bearer : ℕ) (t : HasTickedOnce outset r.ticked b) (o : Outgoing) (Q : PairEnds → Type 0) → ShareBearer start n b bearer → IsAmong b n bearer t o → kind_in o.frame ≡ Links → Lasts (footing_at start n b) (footing_at start b n) Q
       → ArrivalMakes start (ends_of start.air) (IsMetNode start (most + 1) step) (IsFromMended start) (λ m. Q (pair_with m.node b)) bearer n (airborne (contact_at t.before.members b) t.after.members b o)
       → AtNode n (λ m. Q (pair_with m.node b)) now
-  brings b n bearer t o Q shared among lasts makes = brings_it b n bearer t o Q shared among (lasts_arrivals start (most + 1) step n b Q k.kept (number_at b shared.there) shared.apart lasts) makes
+  brings b n bearer t o Q shared among kind lasts makes = brings_it b n bearer t o Q shared among kind (lasts_arrivals start (most + 1) step n b Q k.kept (number_at b shared.there) shared.apart lasts) makes

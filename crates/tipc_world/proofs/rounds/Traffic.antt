@@ -1,4 +1,4 @@
--- In a calm world a STATE or a numbered packet in the air was sent by a link that is up, under the epochs that both nodes have at present.
+-- In a world that settles a STATE or a numbered packet in the air was sent by a link that is up, under the epochs that both nodes have at present.
 use Rattle.std.specs.Prelude.{slice_get}
 use Rattle.std.proofs.Common.{◌≡◌, ◌≢◌, ◌<◌, ◌≤◌, ◌^◌, ◌∙◌, ℕ, true, Option, Some, None, slice_index_or, refl, sym, ap, subst, arith}
 use Rattle.tipc_types.specs.LinkStates.{is_up}
@@ -27,9 +27,10 @@ use Rattle.tipc_replay.specs.Views.{sight_at}
 use Rattle.tipc_world.specs.CalmWorlds.{IsCalmWorld, IsFromMended}
 use Rattle.tipc_world.specs.RoundParts.{IsKept}
 use Rattle.tipc_world.specs.States.{WorldState}
-use Rattle.tipc_world.specs.StillWorlds.{footing_at}
+use Rattle.tipc_world.specs.StillWorlds.{IsStillWorld, IsUnderPresent, footing_at}
+use Rattle.tipc_world.proofs.rounds.CalmWorlds.{calm_is_still}
 use Rattle.tipc_world.proofs.rounds.StillWorlds.{seen_end, sight_is, still_epoch}
-use Rattle.tipc_world.proofs.rounds.UpLinks.{sight_near, up_side}
+use Rattle.tipc_world.proofs.rounds.UpLinks.{sight_near, still_side}
 
 -- ---- two nodes
 
@@ -84,9 +85,36 @@ names_peer v w place f e s es er p h there end up has own is =
     let same : k.begun ≡ g.begun = cc in
     sym k.peer_is ∙ (ap (λ (c : Begun). c.peer_epoch) same ∙ g.peer_is)
 
--- ---- a calm world
+-- ---- a world that settles
 
--- a STATE or a numbered packet of node b to node n in the air: the link is up, and it is under both present epochs
+-- a STATE or a numbered packet of node b to node n in the air: b's link is up, and it is under both present epochs
+pub record IsOfPresent (start : WorldState) (b n bearer es er : ℕ) (m : MemberState) : Type 0 where
+  pub up : is_up_at (facing bearer (pair_with m.node n)).near ≡ true
+  pub es_is : es ≡ (footing_at start b n).epoch bearer
+  pub er_is : er ≡ (footing_at start n b).epoch bearer
+
+pub of_present : (start w : WorldState) (b n bearer k : ℕ) (f : Sent) (m : MemberState) (es er : ℕ) (p : Fields) → IsKept start → IsStillWorld start w → IsUnderPresent start bearer f → IsNumber b → IsNumber n → b ≢ n → bearer ≤ 1 → goes b n f ≡ true
+    → slice_index_or w.members b None ≡ Some m → slice_get (sight_at w.members w.air b n).sent k ≡ Some (as_frame bearer f) → IsFrom b f.frame es er p → is_traffic p.header ≡ true → IsOfPresent start b n bearer es er m
+of_present start w b n bearer k f m es er p kept_start g said b_is n_is apart on_one goes_to there at brings traffic =
+    let kept = g.on.kept kept_start in
+    let own = footing_at start b n in
+    let peer = footing_at start n b in
+    let v = sight_at w.members w.air b n in
+    let u = sight_at w.members w.air n b in
+    let seen = kept.nodes.sound.pairs b n b_is n_is apart in
+    let still_pair = g.nodes b m there n n_is apart in
+    let sight = sight_is w b n m kept there in
+    let still : IsStill own peer (pair_seen v) = subst (IsStill own peer) (sym sight) still_pair in
+    let is : IsTraffic (as_frame bearer f) es er p = record { es_fits = brings.es_fits; er_fits = brings.er_fits; fits = brings.fits; bytes = brings.frame_is; traffic = traffic } in
+    let under : es ≡ own.epoch bearer = sym (es_of-frame es er (spelling p) brings.es_fits brings.er_fits) ∙ (ap es_of (sym brings.frame_is) ∙ (said b n b_is n_is apart goes_to).epoch) in
+    let now : es ≡ epoch_in v.node.contact (v.ends bearer) = under ∙ (sym (still_epoch own peer v bearer on_one still) ∙ seen_end v bearer on_one) in
+    let end_up = sender_up v u k (as_frame bearer f) es er p (v.ends bearer) seen at refl is now in
+    let near : is_up_at (facing bearer (pair_with m.node n)).near ≡ true = ap is_up_at (sym (ap (λ x. (facing bearer x).near) sight) ∙ sight_near v bearer on_one) ∙ end_up in
+    let side = still_side start w b n bearer m kept n_is apart on_one there still_pair near in
+    let named = names_peer v u k (as_frame bearer f) side.link.end side.session es er p seen at side.end_is side.link.up side.has (side.epoch ∙ sym under) is in
+    record { up = near; es_is = under; er_is = named ∙ side.peer_epoch }
+
+-- in a calm world the link was up when the call began
 pub record IsOfUpLink (start : WorldState) (b n bearer es er : ℕ) : Type 0 where
   pub up : (footing_at start b n).up bearer ≡ true
   pub es_is : es ≡ (footing_at start b n).epoch bearer
@@ -94,22 +122,7 @@ pub record IsOfUpLink (start : WorldState) (b n bearer es er : ℕ) : Type 0 whe
 
 pub of_up_link : (start w : WorldState) (b n bearer k : ℕ) (f : Sent) (m : MemberState) (es er : ℕ) (p : Fields) → IsKept start → IsCalmWorld start w → IsFromMended start bearer f → IsNumber b → IsNumber n → b ≢ n → bearer ≤ 1 → goes b n f ≡ true
     → slice_index_or w.members b None ≡ Some m → slice_get (sight_at w.members w.air b n).sent k ≡ Some (as_frame bearer f) → IsFrom b f.frame es er p → is_traffic p.header ≡ true → IsOfUpLink start b n bearer es er
-of_up_link start w b n bearer k f m es er p kept_start g said b_is n_is apart on_one goes_to there at brings traffic =
-    let kept = g.on.kept kept_start in
-    let own = footing_at start b n in
-    let peer = footing_at start n b in
-    let v = sight_at w.members w.air b n in
-    let u = sight_at w.members w.air n b in
-    let seen = kept.nodes.sound.pairs b n b_is n_is apart in
-    let calm = g.nodes b m there n n_is apart in
-    let sight = sight_is w b n m kept there in
-    let still : IsStill own peer (pair_seen v) = subst (IsStill own peer) (sym sight) calm.still in
-    let is : IsTraffic (as_frame bearer f) es er p = record { es_fits = brings.es_fits; er_fits = brings.er_fits; fits = brings.fits; bytes = brings.frame_is; traffic = traffic } in
-    let under : es ≡ own.epoch bearer = sym (es_of-frame es er (spelling p) brings.es_fits brings.er_fits) ∙ (ap es_of (sym brings.frame_is) ∙ (said b n b_is n_is apart goes_to).present.epoch) in
-    let now : es ≡ epoch_in v.node.contact (v.ends bearer) = under ∙ (sym (still_epoch own peer v bearer on_one still) ∙ seen_end v bearer on_one) in
-    let end_up = sender_up v u k (as_frame bearer f) es er p (v.ends bearer) seen at refl is now in
-    let near : is_up_at (facing bearer (pair_with m.node n)).near ≡ true = ap is_up_at (sym (ap (λ x. (facing bearer x).near) sight) ∙ sight_near v bearer on_one) ∙ end_up in
-    let up : own.up bearer ≡ true = sym (calm.ups bearer on_one) ∙ near in
-    let side = up_side start w b n bearer m kept n_is apart on_one there calm up in
-    let named = names_peer v u k (as_frame bearer f) side.link.end side.session es er p seen at side.end_is side.link.up side.has (side.epoch ∙ sym under) is in
-    record { up = up; es_is = under; er_is = named ∙ side.peer_epoch }
+of_up_link start w b n bearer k f m es er p kept g said b_is n_is apart on_one goes_to there at brings traffic =
+    let under : IsUnderPresent start bearer f = λ s d s_is d_is two to_it. (said s d s_is d_is two to_it).present in
+    let q = of_present start w b n bearer k f m es er p kept (calm_is_still start w g) under b_is n_is apart on_one goes_to there at brings traffic in
+    record { up = sym ((g.nodes b m there n n_is apart).ups bearer on_one) ∙ q.up; es_is = q.es_is; er_is = q.er_is }

@@ -1,4 +1,5 @@
--- The ends of a link that was up when a call began, in a calm world: each is up in a session of both nodes' present epochs, and the two are joined.
+-- The ends of links that are up in a world that settles: each is in a session of both nodes' present epochs. And of a link that was up when the call began
+-- both ends are up in a calm world, and joined.
 use Rattle.std.specs.Prelude.{◌==◌, if◌then◌else◌, slice_get}
 use Rattle.std.proofs.Common.{◌≡◌, ◌≢◌, ◌≤◌, ◌+◌, ◌∙◌, ℕ, zero, suc, Bool, true, List, length, Option, Some, None, slice_index_or, is_some, inl, inr, refl, sym, ap, subst, arith}
 use Rattle.std.proofs.lemmas.Bool.{true≢false}
@@ -130,18 +131,19 @@ sight_words w a b = (refl, refl)
 same_peer : (o : Option ℕ) (x y : ℕ) → o ≡ Some x → o ≡ Some y → x ≡ y
 same_peer o x y one two = let both : Some x ≡ Some y = sym one ∙ two in cc
 
-pub up_side : (start w : WorldState) (a b bearer : ℕ) (m : MemberState) → IsKept w → IsNumber b → a ≢ b → bearer ≤ 1 → slice_index_or w.members a None ≡ Some m → IsCalmPair (footing_at start a b) (footing_at start b a) (pair_with m.node b)
-    → (footing_at start a b).up bearer ≡ true → UpSide start w a b bearer m
-up_side start w a b bearer m kept b_is apart on_one there calm up =
+-- Where node a's pair is still, and its link is up now.
+pub still_side : (start w : WorldState) (a b bearer : ℕ) (m : MemberState) → IsKept w → IsNumber b → a ≢ b → bearer ≤ 1 → slice_index_or w.members a None ≡ Some m → IsStill (footing_at start a b) (footing_at start b a) (pair_with m.node b)
+    → is_up_at (facing bearer (pair_with m.node b)).near ≡ true → UpSide start w a b bearer m
+still_side start w a b bearer m kept b_is apart on_one there still_pair up =
     let own = footing_at start a b in
     let peer = footing_at start b a in
     let v = sight_at w.members w.air a b in
     let u = sight_at w.members w.air b a in
-    let link = up_link m.node b bearer (calm.ups bearer on_one ∙ up) in
+    let link = up_link m.node b bearer up in
     let sight = sight_is w a b m kept there in
     let end_is : v.ends bearer ≡ Some link.end = sym (sight_near v bearer on_one) ∙ (ap (λ x. (facing bearer x).near) sight ∙ link.near) in
     let seen = kept.nodes.sound.pairs a b (node_number w a m kept there) b_is apart in
-    let still : IsStill own peer (pair_seen v) = subst (IsStill own peer) (sym sight) calm.still in
+    let still : IsStill own peer (pair_seen v) = subst (IsStill own peer) (sym sight) still_pair in
     let going = (ends v u bearer link.end seen end_is).going link.up in
     let epoch_is : link.end.fsm.own ≡ own.epoch bearer = sym (ap (epoch_in v.node.contact) end_is) ∙ (sym (seen_end v bearer on_one) ∙ still_epoch own peer v bearer on_one still) in
     let knows = still_knows own peer v bearer link.end on_one end_is link.up still in
@@ -163,6 +165,11 @@ up_side start w a b bearer m kept b_is apart on_one there calm up =
       peer_word = words.1 ∙ names.1;
       on_bearer = words.2;
     }
+
+-- Where its pair is calm, and its link was up when the call began.
+pub up_side : (start w : WorldState) (a b bearer : ℕ) (m : MemberState) → IsKept w → IsNumber b → a ≢ b → bearer ≤ 1 → slice_index_or w.members a None ≡ Some m → IsCalmPair (footing_at start a b) (footing_at start b a) (pair_with m.node b)
+    → (footing_at start a b).up bearer ≡ true → UpSide start w a b bearer m
+up_side start w a b bearer m kept b_is apart on_one there calm up = still_side start w a b bearer m kept b_is apart on_one there calm.still (calm.ups bearer on_one ∙ up)
 
 -- ---- the other end
 

@@ -122,7 +122,7 @@ ticks_run start first base places count now c goes whole runs heard =
 -- ---- an arrival
 
 -- a frame that stands at a place of the longer air stood there in the shorter one, which has the place
-stood_there : (xs ys : List Sent) (place : ℕ) (f : Sent) → IsPrefixOf xs ys → place < length xs → slice_get ys place ≡ Some f → slice_get xs place ≡ Some f
+pub stood_there : (xs ys : List Sent) (place : ℕ) (f : Sent) → IsPrefixOf xs ys → place < length xs → slice_get ys place ≡ Some f → slice_get xs place ≡ Some f
 stood_there xs ys place f front within there =
     let here = slice_get-get_or xs place f within in
     let later = get_prefix xs ys place (get_or xs place f) front here in

@@ -1,7 +1,7 @@
 use Rattle.std.proofs.Common.{◌∙◌, sym, arith}
 use Rattle.std.proofs.lemmas.Result.{err_from_is_err_and}
-use Rattle.tipc_sim.specs.Messages.{begin, go_on}
-use Rattle.tipc_sim.proofs.MessageLaws.{receive_counts, receive_halts}
+use Rattle.tipc_sim.specs.Messages.{begin}
+use Rattle.tipc_sim.proofs.MessageLaws.{receive_halts, received_more}
 use Rattle.tipc_world.proofs.Continuing.{continues_same, continues_more}
 use Rattle.tipc_sim.proofs.messages.receive_all.Goals as goal
 
@@ -23,19 +23,27 @@ returns-then-not-is_message-clause-continues g c = continues_more c.args.world.n
 pub loop-answer-preserved-else-not-is_message : goal.loop-answer-preserved-else-not-is_message
 loop-answer-preserved-else-not-is_message g c =
     let l = c.loop-answer in
-    let counts = receive_counts l.world.state c.args.at.node c.args.at.port c.receive.new.world.state c.in_ok-answer.answer c.in_ok-answer.ensures.comes in
-    record {
-      passed = go_on l.count l.world.state c.in_ok-answer.answer c.receive.new.world.state l.invariant.passed c.in_ok-answer.ensures.comes (sym c.is_message.ensures ∙ c.if-not-is_message.false);
-      continues = continues_more c.args.world.now l.world c.receive.new.world l.invariant.continues c.receive.ensures.continues;
-      fewer = omega (arith, l.invariant.fewer, counts.1);
-    }
+    let more = received_more c.args.world.now l.world c.receive.new.world c.args.at.node c.args.at.port l.count c.in_ok-answer.answer l.invariant.passed l.invariant.continues l.invariant.fewer
+    c.in_ok-answer.ensures.comes c.receive.ensures.continues (sym c.is_message.ensures ∙ c.if-not-is_message.false) in
+    record { passed = more.0; continues = more.1; fewer = more.2 }
 
 pub loop-answer-preserved-else-not-is_message-2 : goal.loop-answer-preserved-else-not-is_message-2
 loop-answer-preserved-else-not-is_message-2 g c =
     let l = c.loop-answer in
-    let counts = receive_counts l.world.state c.args.at.node c.args.at.port c.receive.new.world.state c.in_ok-answer.answer c.in_ok-answer.ensures.comes in
-    record {
-      passed = go_on l.count l.world.state c.in_ok-answer.answer c.receive.new.world.state l.invariant.passed c.in_ok-answer.ensures.comes (sym c.is_message.ensures ∙ c.if-not-is_message.false);
-      continues = continues_more c.args.world.now l.world c.receive.new.world l.invariant.continues c.receive.ensures.continues;
-      fewer = omega (arith, l.invariant.fewer, counts.1);
-    }
+    let more = received_more c.args.world.now l.world c.receive.new.world c.args.at.node c.args.at.port l.count c.in_ok-answer.answer l.invariant.passed l.invariant.continues l.invariant.fewer
+    c.in_ok-answer.ensures.comes c.receive.ensures.continues (sym c.is_message.ensures ∙ c.if-not-is_message.false) in
+    record { passed = more.0; continues = more.1; fewer = more.2 }
+
+pub loop-answer-preserved-else-not-is_message-3 : goal.loop-answer-preserved-else-not-is_message-3
+loop-answer-preserved-else-not-is_message-3 g c =
+    let l = c.loop-answer in
+    let more = received_more c.args.world.now l.world c.receive.new.world c.args.at.node c.args.at.port l.count c.in_ok-answer.answer l.invariant.passed l.invariant.continues l.invariant.fewer
+    c.in_ok-answer.ensures.comes c.receive.ensures.continues (sym c.is_message.ensures ∙ c.if-not-is_message.false) in
+    record { passed = more.0; continues = more.1; fewer = more.2 }
+
+pub loop-answer-preserved-else-not-is_message-4 : goal.loop-answer-preserved-else-not-is_message-4
+loop-answer-preserved-else-not-is_message-4 g c =
+    let l = c.loop-answer in
+    let more = received_more c.args.world.now l.world c.receive.new.world c.args.at.node c.args.at.port l.count c.in_ok-answer.answer l.invariant.passed l.invariant.continues l.invariant.fewer
+    c.in_ok-answer.ensures.comes c.receive.ensures.continues (sym c.is_message.ensures ∙ c.if-not-is_message.false) in
+    record { passed = more.0; continues = more.1; fewer = more.2 }

@@ -1,11 +1,11 @@
 use Rattle.std.proofs.Common.{refl, sym, ◌∙◌}
 use Rattle.tipc_header.specs.Spelling.{view}
-use Rattle.tipc_reassembly.proofs.OnePacket.{answer_brings, fragment_brings, message_brings, none_brings, other_brings}
+use Rattle.tipc_reassembly.proofs.OnePacket.{answer_brings, fragment_brings, message_brings, none_brings, other_brings, so_brings}
 use Rattle.tipc_reassembly.proofs.opening.Reassembly.open_one.Goals as goal
 
 pub returns-in_default-clause-ok : goal.returns-in_default-clause-ok
 returns-in_default-clause-ok c =
-    answer_brings _ _ _ _ _ _ (none_brings _ _ _ (λ p fits spelled. c.in_default.ensures.only p fits (c.as_slice-bytes.ensures ∙ spelled))) c.only.ensures
+    so_brings _ _ _ _ c.only.result _ (none_brings _ _ _ (λ p fits spelled. c.in_default.ensures.only p fits (c.as_slice-bytes.ensures ∙ spelled))) c.only.ensures
 
 pub returns-in-Payload-clause-ok : goal.returns-in-Payload-clause-ok
 returns-in-Payload-clause-ok c =
@@ -28,7 +28,7 @@ pub returns-in_default-header-clause-ok : goal.returns-in_default-header-clause-
 returns-in_default-header-clause-ok c =
     let read = c.in-Ok.ensures.spells in
     let other = c.in_default-header in
-    answer_brings _ _ _ _ _ _ (other_brings _ _ _ c.in-Ok.packet.header (record {
+    so_brings _ _ _ _ c.only-in_default-header.result _ (other_brings _ _ _ c.in-Ok.packet.header (record {
       packet = view c.in-Ok.packet;
       fits = read.0;
       spelled = sym c.as_slice-bytes.ensures ∙ read.1;

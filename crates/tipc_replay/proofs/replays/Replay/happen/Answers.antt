@@ -12,7 +12,8 @@ use Rattle.tipc_replay.proofs.casts.Meeting.{becomes_met}
 use Rattle.tipc_replay.proofs.frames.AgedKept.{becomes_aged}
 use Rattle.tipc_replay.proofs.journals.KeptWorlds.{becomes_watched}
 use Rattle.tipc_replay.proofs.names.Sharing.{becomes_shared}
-use Rattle.tipc_replay.proofs.states.EndsKept.{becomes_bounded, becomes_named, becomes_numbers, becomes_right}
+use Rattle.tipc_replay.proofs.states.CastLinksKept.{becomes_cast}
+use Rattle.tipc_replay.proofs.states.EndsKept.{becomes_bounded, becomes_named, becomes_numbers, becomes_packed, becomes_right}
 use Rattle.tipc_replay.proofs.states.PlainKept.{becomes_plain}
 use Rattle.tipc_replay.proofs.replays.Replay.happen.Goals as goal
 
@@ -41,9 +42,11 @@ invariant_of-self-2 g c =
       plain = becomes_plain old new c.args.by c.args.event _ _ becomes h.plain;
       aged = becomes_aged old new c.args.by c.args.event _ _ h.sound sound becomes h.aged;
       casts = becomes_casting old new c.args.by c.args.event _ _ h.sound h.met h.plain h.aged next becomes h.casts;
+      cast_links = becomes_cast old new c.args.by c.args.event _ _ can becomes h.cast_links;
       ends = becomes_right old new c.args.by c.args.event _ _ can becomes h.ends;
       bounded = becomes_bounded old new c.args.by c.args.event _ _ becomes h.bounded;
       numbers = becomes_numbers old new c.args.by c.args.event _ _ becomes h.numbers;
+      packed = becomes_packed old new c.args.by c.args.event _ _ becomes h.packed;
       originals = becomes_named old new c.args.by c.args.event _ _ becomes h.numbers h.originals;
     }
 

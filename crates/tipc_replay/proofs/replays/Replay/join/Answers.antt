@@ -9,7 +9,8 @@ use Rattle.tipc_replay.proofs.casts.MetStarts.{joined_met}
 use Rattle.tipc_replay.proofs.frames.AgedKept.{joined_aged}
 use Rattle.tipc_replay.proofs.journals.KeptWorlds.{joined_watched}
 use Rattle.tipc_replay.proofs.names.Sharing.{joined_shared}
-use Rattle.tipc_replay.proofs.states.EndsKept.{joined_bounded, joined_named, joined_numbers, joined_right}
+use Rattle.tipc_replay.proofs.states.CastLinksKept.{joined_cast}
+use Rattle.tipc_replay.proofs.states.EndsKept.{joined_bounded, joined_named, joined_numbers, joined_packed, joined_right}
 use Rattle.tipc_replay.proofs.states.PlainKept.{joined_plain}
 use Rattle.tipc_replay.proofs.replays.Replay.join.Goals as goal
 
@@ -32,9 +33,11 @@ invariant_of-self-2 c =
       plain = joined_plain w.members.items _ c.args.n c.args.boot j h.plain;
       aged = joined_aged w.members.items _ w.air c.args.n c.args.boot c.requires.boot absent j h.aged;
       casts = joined_casting w.members.items _ w.air c.args.n c.args.boot c.requires.range c.requires.boot few absent j h.casts;
+      cast_links = joined_cast w.members.items _ c.args.n c.args.boot j h.cast_links;
       ends = joined_right w.members.items _ c.args.n c.args.boot j h.ends;
       bounded = joined_bounded w.members.items _ c.args.n c.args.boot j h.bounded;
       numbers = joined_numbers w.members.items _ c.args.n c.args.boot j h.numbers;
+      packed = joined_packed w.members.items _ c.args.n c.args.boot j h.packed;
       originals = joined_named w.members.items _ c.args.n c.args.boot j h.originals;
     }
 
