@@ -14,7 +14,7 @@ hostile.py print KIND SEED LINES
 hostile.py try PROGRAM KIND FIRST LAST LINES
     Runs PROGRAM (a built tipc_sim) on the script of each seed from FIRST to LAST and looks at its report: the program ends with
     status 0 and answers each line; at the end the nodes are quiet, what they send each other comes, all of it, their tables are the
-    same, and on each way all that was accepted in the present contact was delivered. A script that has more events or frames than may
+    same, and on each way all that was accepted in the present contact was delivered, multicasts aside. A script that has more events or frames than may
     be is no fault, but counted by itself.
 
 hostile.py bytes NODES FRAMES

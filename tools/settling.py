@@ -6,7 +6,7 @@ settling.py PROGRAM FIRST LAST [LINES]
     (a built tipc_sim) twice. The first run tells the load behind it: the packets that are unacknowledged or wait, and for each two
     nodes what was accepted and isn't delivered (multicasts aside, of whose messages no line tells; so the rounds may be fewer than
     those promised). The second one goes on with `settle r`, where r is 16 and 16 for each of the load. It must answer `quiet`; all
-    that was accepted between nodes in contact must be delivered, and nodes that are all in contact must hold the same publications.
+    that nodes in contact accepted for one another must be delivered (multicasts aside), and nodes that are all in contact must hold the same publications.
     Where so many rounds are more events than a script may have, as many are run as fit.
 
 A world counts where the links that were up before the last lines are up behind them, and the others are not: so far a report tells that
