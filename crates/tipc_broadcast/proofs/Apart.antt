@@ -9,7 +9,8 @@ use Rattle.tipc_types.specs.Position.{number_of}
 use Rattle.tipc_types.specs.declared.link_words.BroadcastState.{BroadcastState}
 use Rattle.tipc_recv_window.specs.Receiving.{Receiving}
 use Rattle.tipc_broadcast.specs.declared.contacts.Contact.{Contact}
-use Rattle.tipc_broadcast.specs.Casting.{Casting, accepted, accepting, answered, credited, flushed, informed, kept_for, leaving, left_with, moved_up, next_start, room, rounds_of_departure, settled, shown, with_contacts, with_message}
+use Rattle.tipc_broadcast.specs.Casting.{Casting, accepted, accepting, answered, credited, flushed, informed, kept_for, leaving, left_with, moved_up, next_start, rounds_of_departure, settled, shown, with_contacts, with_message}
+use Rattle.tipc_send_window.specs.Sending.{room}
 use Rattle.tipc_broadcast.specs.Contacts.{acknowledging, carried, contact_with, is_with, joined, shown_in, shown_to, told, with_changed, without}
 use Rattle.tipc_broadcast.specs.Deeds.{CastDeed, after_deed, after_deeds, is_deed_with, is_hearing_of, sends_nothing}
 use Rattle.tipc_broadcast.proofs.Deeds.{LeavesBoot, accepting_alike, answered_alike, heard_keeps, left_alike, told_keeps}

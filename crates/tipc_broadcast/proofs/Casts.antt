@@ -9,9 +9,9 @@ use Rattle.tipc_types.specs.Position.{number_of}
 use Rattle.tipc_types.specs.declared.packet_lists.Kept.{Kept}
 use Rattle.tipc_outside.proofs.Adding.{adds_more, adds_none}
 use Rattle.tipc_outside.specs.Frames.{Adds, Out}
-use Rattle.tipc_send_window.specs.Sending.{kept_after, kept_of, Sending}
+use Rattle.tipc_send_window.specs.Sending.{kept_after, kept_of, Sending, advanced, room}
 use Rattle.tipc_broadcast.specs.Frames.{IsShort, cast, cast_again, cast_all}
-use Rattle.tipc_broadcast.specs.Casting.{advanced, Casting, flush_frames, flushed, is_behind, moved_up_frames, moved_up, repeat_frames, room, rounds_of_departure, sent, settled}
+use Rattle.tipc_broadcast.specs.Casting.{Casting, flush_frames, flushed, is_behind, moved_up_frames, moved_up, repeat_frames, rounds_of_departure, sent, settled}
 
 advanced-none : (s : Sending) → advanced 0 s ≡ s
 advanced-none s = let u : s.unacked ++ [] ≡ s.unacked = append-nil s.unacked in let n : s.numbered + 0 ≡ s.numbered = omega arith in rw (u, n) refl

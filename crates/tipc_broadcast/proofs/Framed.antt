@@ -19,9 +19,9 @@ use Rattle.tipc_header.specs.Reading.{fields_at}
 use Rattle.tipc_header.specs.Spelling.{Fields, spelling}
 use Rattle.tipc_header.proofs.FrameWords.{first_of-frame, length-envelope, stamped-spelling}
 use Rattle.tipc_header.proofs.Again.{again}
-use Rattle.tipc_send_window.specs.Sending.{acked_of, kept_after, kept_of}
+use Rattle.tipc_send_window.specs.Sending.{acked_of, kept_after, kept_of, room}
 use Rattle.tipc_broadcast.specs.declared.contacts.Contact.{Contact}
-use Rattle.tipc_broadcast.specs.Casting.{Casting, accepting, answered, answered_frames, credited, flush_frames, flushed, informed, is_behind, kept_for, left_frames, left_with, moved_up_frames, moved_up, repeat_frames, room, rounds_of_departure, settled, with_contacts, with_message}
+use Rattle.tipc_broadcast.specs.Casting.{Casting, accepting, answered, answered_frames, credited, flush_frames, flushed, informed, is_behind, kept_for, left_frames, left_with, moved_up_frames, moved_up, repeat_frames, rounds_of_departure, settled, with_contacts, with_message}
 use Rattle.tipc_broadcast.specs.Contacts.{acked_by_all, member_set, without}
 use Rattle.tipc_broadcast.specs.Deeds.{AreLawful, CanSend, CastDeed, IsLawful, after_deed, after_deeds, deed_frames, deeds_frames}
 use Rattle.tipc_broadcast.specs.Frames.{accepted_frame, cast, cast_again, cast_all, numbered_frame, on_bearer}

@@ -4,9 +4,9 @@ use Rattle.std.specs.Prelude.{All}
 use Rattle.std.proofs.lemmas.List.{length-take-le}
 use Rattle.std.proofs.lemmas.List.Elements.{All-append, All-drop, All-nil, All-push, All-take}
 use Rattle.tipc_types.specs.declared.link_words.BroadcastState.{BroadcastState}
-use Rattle.tipc_send_window.specs.Sending.{IsSending, acked_of, passed_over}
+use Rattle.tipc_send_window.specs.Sending.{IsSending, acked_of, passed_over, advanced, room}
 use Rattle.tipc_broadcast.specs.declared.contacts.Contact.{Contact}
-use Rattle.tipc_broadcast.specs.Casting.{Casting, IsCasting, accepted, accepting, advanced, answered, credited, flushed, informed, kept_for, left_with, moved_up, next_start, room, rounds_of_departure, settled, with_contacts, with_message}
+use Rattle.tipc_broadcast.specs.Casting.{Casting, IsCasting, accepted, accepting, answered, credited, flushed, informed, kept_for, left_with, moved_up, next_start, rounds_of_departure, settled, with_contacts, with_message}
 use Rattle.tipc_broadcast.specs.Contacts.{IsContact, acknowledging, carried, heard, joined, member_set, refusal, told, without}
 use Rattle.tipc_broadcast.specs.Deeds.{CanSend, CastDeed, IsLawful, after_deed, sends_nothing}
 use Rattle.tipc_broadcast.specs.Frames.{accepted_frame}

@@ -4,9 +4,9 @@ use Rattle.std.specs.Prelude.{◌⊎◌, min, if◌then◌else◌}
 use Rattle.std.proofs.lemmas.Bool.{cases_lt}
 use Rattle.std.proofs.lemmas.List.{length-drop, length-take, drop_all}
 use Rattle.tipc_types.specs.declared.link_words.BroadcastState.{BroadcastState}
-use Rattle.tipc_send_window.specs.Sending.{Sending, acked_of, passed_over}
+use Rattle.tipc_send_window.specs.Sending.{Sending, acked_of, passed_over, advanced, room}
 use Rattle.tipc_broadcast.specs.declared.contacts.Contact.{Contact}
-use Rattle.tipc_broadcast.specs.Casting.{Casting, IsPackedCast, advanced, answered, credited, flushed, informed, kept_for, left_with, moved_up, room, settled, stating, with_contacts, with_message, with_sending}
+use Rattle.tipc_broadcast.specs.Casting.{Casting, IsPackedCast, answered, credited, flushed, informed, kept_for, left_with, moved_up, settled, stating, with_contacts, with_message, with_sending}
 use Rattle.tipc_broadcast.specs.Contacts.{acked_by_all, without}
 use Rattle.tipc_broadcast.specs.Deeds.{CastDeed, after_deed, after_deeds}
 

@@ -9,9 +9,9 @@ use Rattle.tipc_types.specs.declared.packet_lists.Kept.{Kept}
 use Rattle.tipc_outside.specs.declared.outgoing.Outgoing.{Outgoing}
 use Rattle.tipc_header.specs.Spelling.{word}
 use Rattle.tipc_header.proofs.Words.{length-word}
-use Rattle.tipc_send_window.specs.Sending.{acked_of, kept_after, kept_of}
+use Rattle.tipc_send_window.specs.Sending.{acked_of, kept_after, kept_of, room}
 use Rattle.tipc_broadcast.specs.Frames.{cast, cast_again, cast_all, IsShort, numbered_frame, on_bearer}
-use Rattle.tipc_broadcast.specs.Casting.{Casting, flush_frames, IsCasting, is_behind, repeat_frames, room}
+use Rattle.tipc_broadcast.specs.Casting.{Casting, flush_frames, IsCasting, is_behind, repeat_frames}
 use Rattle.tipc_broadcast.proofs.FrameLaws.{numbered_is}
 
 -- a frame that has room for its number, and isn't too long

@@ -1,5 +1,5 @@
 -- The broadcast link of a node in one boot, and what each call makes of it.
-use Rattle.std.specs.Prelude.{◌≡◌, ◌⊎◌, ℕ, zero, suc, ◌+◌, ◌-◌, ◌≤◌, ◌&&◌, Bool, false, List, [], ◌∷◌, ◌++◌, All, length, take, drop, filter, map, min, nat_le, nat_lt, replicate, slice_set, Option, Some, None, if◌then◌else◌}
+use Rattle.std.specs.Prelude.{◌≡◌, ◌⊎◌, ℕ, zero, suc, ◌+◌, ◌-◌, ◌≤◌, ◌&&◌, Bool, false, List, [], ◌∷◌, ◌++◌, All, length, take, filter, map, nat_le, nat_lt, replicate, slice_set, Option, Some, None, if◌then◌else◌}
 use Rattle.tipc_types.specs.Address.{IsNodeWord}
 use Rattle.tipc_types.specs.Position.{distance_of, number_of}
 use Rattle.tipc_types.specs.declared.link_words.BroadcastState.{BroadcastState}
@@ -10,7 +10,7 @@ use Rattle.tipc_types.specs.declared.packet_lists.Taken.{Taken}
 use Rattle.tipc_types.specs.Limits.{most_frame_bytes, window_size}
 use Rattle.tipc_outside.specs.declared.outgoing.Outgoing.{Outgoing}
 use Rattle.tipc_header.specs.Spelling.{Fields}
-use Rattle.tipc_send_window.specs.Sending.{acked_of, fresh, kept_of, offered, passed_over, released, Sending}
+use Rattle.tipc_send_window.specs.Sending.{acked_of, fresh, kept_of, offered, passed_over, released, Sending, advanced, room}
 use Rattle.tipc_recv_window.specs.declared.outcomes.LinkOutcome.{LinkOutcome}
 use Rattle.tipc_recv_window.specs.declared.outcomes.LinkOutcome.TheVariants as outcome
 use Rattle.tipc_recv_window.specs.Receiving.{Coming}
@@ -47,14 +47,6 @@ abbrev pub next_start : Casting → ℕ
 next_start v = accepted v.sending + 1
 
 -- ---- packets that move up
-
--- how many of the waiting packets the window has room for
-abbrev pub room : Sending → ℕ
-room s = min (window_size - length s.unacked) (length s.waiting)
-
--- the first n waiting packets are numbered
-abbrev pub advanced : ℕ → Sending → Sending
-advanced n s = record { numbered = s.numbered + n; unacked = s.unacked ++ take n s.waiting; waiting = drop n s.waiting }
 
 -- the broadcast link with another send window
 abbrev pub with_sending : Casting → Sending → Casting

@@ -62,7 +62,8 @@ impl Model for Broadcast {
 impl Broadcast {
     ghost use Rattle.tipc_types.specs.Limits.{most_packet_bytes, window_size};
     ghost use Rattle.tipc_broadcast.specs.Frames.{cast, IsShort, numbered_frame, on_bearer};
-    ghost use Rattle.tipc_broadcast.specs.Casting.{accepting, accepting_frames, answered, answered_frames, arriving, arriving_outcome, booted, coming_at, coming_of, credited, flush_frames, flushed, hearing, informed, IsCasting, joining, kept_for, left_frames, left_with, leaving, leaving_frames, moved_up_frames, moved_up, next_start, refusal_of, repeat_frames, room, rounds_of_departure, sent, settled, shown, stating, stating_frames, TakesFew, with_bearer, with_contacts, with_message, with_sending};
+    ghost use Rattle.tipc_broadcast.specs.Casting.{accepting, accepting_frames, answered, answered_frames, arriving, arriving_outcome, booted, coming_at, coming_of, credited, flush_frames, flushed, hearing, informed, IsCasting, joining, kept_for, left_frames, left_with, leaving, leaving_frames, moved_up_frames, moved_up, next_start, refusal_of, repeat_frames, rounds_of_departure, sent, settled, shown, stating, stating_frames, TakesFew, with_bearer, with_contacts, with_message, with_sending};
+    ghost use Rattle.tipc_send_window.specs.Sending.{room};
     ghost use Rattle.tipc_broadcast.specs.Contacts.{contact_with, deferred_of, has_joined, IsFree, shows_more_to, without};
 
     /// The broadcast link of a node that has just booted: both bearers are cut, and nobody is in contact.

@@ -1,7 +1,8 @@
 -- What happens at the caster keeps what is true of each member, and so does every event.
 use Rattle.std.proofs.Common.{◌≡◌, ℕ, ◌+◌, ◌<◌, ◌≤◌, [], ◌∷◌, ◌++◌, length, Some, None, refl, sym, ap, ◌∙◌, subst, inl, inr, ◌⊎◌, length-append, arith}
 use Rattle.std.proofs.lemmas.Bool.{cases_lt}
-use Rattle.tipc_broadcast_law.specs.Groups.{Accepted, Caster, Group, length_now, mark, Member, numbered_now, packets, place, put, queue, window}
+use Rattle.tipc_types.specs.Limits.{window_size}
+use Rattle.tipc_broadcast_law.specs.Groups.{Accepted, Caster, Group, length_now, mark, Member, numbered_now, packets, place, put, queue}
 use Rattle.tipc_broadcast_law.specs.Events.{booted_again, line_with, numbered_to, without_contact, accepting_entry, accepts, changes, empties, go_on, Happens, none, numbers, restarts, Runs}
 use Rattle.tipc_broadcast_law.specs.Law.{Keeps, IsGroup}
 use Rattle.tipc_broadcast_law.proofs.MemberEvents.{changed_keeps, ends}
@@ -98,7 +99,7 @@ more-numbered a n f more = elim (same_or_not f a.boot) [
   | inr never ↦ omega (arith, put_other a.boot n a.numbered f never)
 ]
 
-numbering_keeps : (a : Caster) (n m : ℕ) (k : Member) → numbered_now a ≤ n → ((c : ℕ) → k.joined ≡ Some c → n ≤ k.acked + window) → Keeps a m k → Keeps (numbered_to a n) m k
+numbering_keeps : (a : Caster) (n m : ℕ) (k : Member) → numbered_now a ≤ n → ((c : ℕ) → k.joined ≡ Some c → n ≤ k.acked + window_size) → Keeps a m k → Keeps (numbered_to a n) m k
 numbering_keeps a n m k more near h =
     let now : put a.boot n a.numbered a.boot ≡ n = put_same a.boot n a.numbered in
     record {
@@ -177,7 +178,7 @@ restarting_keeps a m k nobody h =
 
 -- ---- every event
 
-numbered_group : (g : Group) (n : ℕ) → IsGroup g → numbered_now g.caster ≤ n → n ≤ length_now g.caster → ((m c : ℕ) → (g.members m).joined ≡ Some c → n ≤ (g.members m).acked + window) → IsGroup (record { caster = numbered_to g.caster n; members = g.members })
+numbered_group : (g : Group) (n : ℕ) → IsGroup g → numbered_now g.caster ≤ n → n ≤ length_now g.caster → ((m c : ℕ) → (g.members m).joined ≡ Some c → n ≤ (g.members m).acked + window_size) → IsGroup (record { caster = numbered_to g.caster n; members = g.members })
 numbered_group g n h more within near =
     let a = g.caster in
     record {

@@ -5,8 +5,9 @@ use Rattle.std.proofs.lemmas.Bool.Decides.{nat_tests}
 use Rattle.std.proofs.lemmas.List.{get_or-drop, get_or-take, map-append, take-append-drop}
 use Rattle.std.proofs.lemmas.List.Elements.{All-from_get_or, All-head, All-tail, filter-append}
 use Rattle.std.proofs.lemmas.Option.{same_Some, slice_get-get_or}
+use Rattle.tipc_types.specs.Limits.{window_size}
 use Rattle.tipc_types.specs.Prefixes.{IsPrefixOf}
-use Rattle.tipc_broadcast_law.specs.Groups.{Accepted, accepted_for, Caster, Group, is_contact, mark, mark_in, Member, numbered_now, packets, place, queue, window}
+use Rattle.tipc_broadcast_law.specs.Groups.{Accepted, accepted_for, Caster, Group, is_contact, mark, mark_in, Member, numbered_now, packets, place, queue}
 use Rattle.tipc_broadcast_law.specs.Events.{accepting_entry, IsBegin, IsNewMember, Runs}
 use Rattle.tipc_broadcast_law.specs.Law.{IsGroup, Keeps}
 use Rattle.tipc_broadcast_law.specs.Promises.{IsNear, ReleasesInOrder}
@@ -170,12 +171,12 @@ releases_in_order g h = record {
       keeps.all c b.0 x is b.1 (omega arith) (omega arith);
 }
 
-pub window_of_50 : (g : Group) → IsGroup g → (m c : ℕ) → (g.members m).joined ≡ Some c → numbered_now g.caster ≤ (g.members m).acked + window
+pub window_of_50 : (g : Group) → IsGroup g → (m c : ℕ) → (g.members m).joined ≡ Some c → numbered_now g.caster ≤ (g.members m).acked + window_size
 window_of_50 g h m c is = (h.each m).numbered_near c is
 
 pub packets_are_near : (g : Group) → IsGroup g → (m c s x stamp : ℕ) → (g.members m).begun c ≡ Some s → mark (g.caster.line ((g.members m).boots c)) m x ≡ Some c
-    → stamp < x + 1 + window + queue → g.caster.numbered ((g.members m).boots c) ≤ stamp + 30000
-    → (x < place (g.members m) c + window + queue) × (place (g.members m) c ≤ x + 30542)
+    → stamp < x + 1 + window_size + queue → g.caster.numbered ((g.members m).boots c) ≤ stamp + 30000
+    → (x < place (g.members m) c + window_size + queue) × (place (g.members m) c ≤ x + 30542)
 packets_are_near g h m c s x stamp begun marked recent fresh =
     let near = (h.each m).mark_near c x marked in
     let far = (h.each m).place_near c s begun in
@@ -195,7 +196,7 @@ start-low g h m c s begun =
 -- a packet for the member at or behind the place that it wants is for it in its contact: it is in no older contact than the last that
 -- the caster began, and what is for it in an older one lies before the start
 pub all_are_near : (g : Group) → IsGroup g → (m c d s x stamp : ℕ) → (g.members m).at ≡ Some c → (g.members m).begun c ≡ Some s → mark (g.caster.line ((g.members m).boots c)) m x ≡ Some d
-    → stamp < x + 1 + window + queue → g.caster.numbered ((g.members m).boots c) ≤ stamp + 30000 → IsNear g m c d x
+    → stamp < x + 1 + window_size + queue → g.caster.numbered ((g.members m).boots c) ≤ stamp + 30000 → IsNear g m c d x
 all_are_near g h m c d s x stamp at begun marked recent fresh =
     let k = g.members m in
     let keeps = h.each m in

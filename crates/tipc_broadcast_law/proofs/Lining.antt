@@ -12,11 +12,11 @@ use Rattle.tipc_types.specs.declared.link_words.BroadcastState.{BroadcastState}
 use Rattle.tipc_types.specs.declared.packet_lists.Kept.{Kept}
 use Rattle.tipc_outside.specs.declared.outgoing.Outgoing.{Outgoing}
 use Rattle.tipc_header.specs.Frames.{frame_of, stamped}
-use Rattle.tipc_send_window.specs.Sending.{acked_of, IsSending, kept_after, kept_of, passed_over, released, Sending}
+use Rattle.tipc_send_window.specs.Sending.{acked_of, IsSending, kept_after, kept_of, passed_over, released, Sending, advanced, room}
 use Rattle.tipc_broadcast.specs.declared.contacts.Contact.{Contact}
 use Rattle.tipc_broadcast.specs.Contacts.{contact_with, is_member, IsContact, member_set, without}
 use Rattle.tipc_broadcast.specs.Frames.{accepted_frame, cast, cast_again, cast_all, numbered_frame, on_bearer}
-use Rattle.tipc_broadcast.specs.Casting.{accepted, accepting, accepting_frames, advanced, answered, answered_frames, Casting, credited, flush_frames, flushed, informed, is_behind, IsCasting, joining, kept_for, leaving, leaving_frames, left_frames, left_with, moved_up_frames, moved_up, repeat_frames, room, rounds_of_departure, settled, stating, stating_frames, with_contacts, with_message, with_sending}
+use Rattle.tipc_broadcast.specs.Casting.{accepted, accepting, accepting_frames, answered, answered_frames, Casting, credited, flush_frames, flushed, informed, is_behind, IsCasting, joining, kept_for, leaving, leaving_frames, left_frames, left_with, moved_up_frames, moved_up, repeat_frames, rounds_of_departure, settled, stating, stating_frames, with_contacts, with_message, with_sending}
 use Rattle.tipc_broadcast.proofs.Apart.{accepted_flushed, accepted_settled}
 use Rattle.tipc_broadcast.proofs.Deeds.{moved_up_alike}
 use Rattle.tipc_broadcast.proofs.FrameLaws.{frames_are_stamped}

@@ -5,6 +5,7 @@ use Rattle.std.proofs.lemmas.Bool.{cases_lt}
 use Rattle.std.proofs.lemmas.Bool.Decides.{nat_tests}
 use Rattle.std.proofs.lemmas.List.{get_or-drop, take_more, length-drop}
 use Rattle.std.proofs.lemmas.Option.{get_or_from_slice_get, same_Some, slice_get_within}
+use Rattle.tipc_types.specs.Limits.{window_size}
 use Rattle.tipc_types.specs.Address.{IsNodeWord}
 use Rattle.tipc_types.specs.Position.{distance_of, number_of}
 use Rattle.tipc_types.proofs.PositionLaws.{distance_of-ahead, distance_of-behind}
@@ -20,7 +21,7 @@ use Rattle.tipc_recv_window.proofs.Comings.{due_none}
 use Rattle.tipc_recv_window.proofs.Holding.{filled-other, filled-same}
 use Rattle.tipc_broadcast.specs.declared.contacts.Contact.{Contact}
 use Rattle.tipc_broadcast.specs.Contacts.{heard, heard_outcome, is_in_step, is_member, IsFree, joined, noted_in, outcome_in, refusal, shown_in, stepped, taken_in, told}
-use Rattle.tipc_broadcast_law.specs.Groups.{Accepted, Caster, Group, mark, mark_in, Member, packets, place, put, queue, window}
+use Rattle.tipc_broadcast_law.specs.Groups.{Accepted, Caster, Group, mark, mark_in, Member, packets, place, put, queue}
 use Rattle.tipc_broadcast_law.specs.Events.{changes, entered, go_on, in_step_from, left, member_begins, member_ends, none, Runs, steps_in, takes, taking}
 use Rattle.tipc_broadcast_law.specs.Law.{IsGroup}
 use Rattle.tipc_broadcast_law.specs.Listening.{given, HadCome, HoldsAt, IsAt, IsCastAt, IsListening, WasShownIn, IsWindow, stepped_member, ToldNext, TookIn, MemberTurns}
@@ -353,7 +354,7 @@ arrived_holds g m c w boot x set stamp r t h node at want boots wanted holds cas
           all_are_near g h m c d b.0 x stamp at b.1 (subst (λ f. mark (a.line f) m x ≡ Some d) (sym boots) (marked ∙ is)) cast.stamped (subst (λ f. a.numbered f ≤ stamp + 30000) (sym boots) fresh) in
           let here : place k c ≡ w = place-want k c w want in
           let low : w ≤ x + 30542 = subst (λ p. p ≤ x + 30542) here near.behind in
-          let high : x < w + window + queue = subst (λ p. x < p + window + queue) here near.ahead in
+          let high : x < w + window_size + queue = subst (λ p. x < p + window_size + queue) here near.ahead in
           let by : ArrivesByPosition r (w + 1) (x + 1) t = arrives r (w + 1) (x + 1) t wanted (omega arith) (omega arith) in
           let at_number : with_packet r t ≡ arrived_at r (past_wanted r (number_of (x + 1))) t = ap (λ n. arrived_at r (past_wanted r n) t) number in
           elim (cases_lt x w) [

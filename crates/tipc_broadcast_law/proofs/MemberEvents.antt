@@ -2,7 +2,8 @@
 use Rattle.std.proofs.Common.{◌≡◌, ℕ, ◌+◌, ◌<◌, ◌≤◌, ◌++◌, length, Option, Some, None, unwrap_or, refl, sym, ap, ◌∙◌, subst, inl, inr, arith}
 use Rattle.std.proofs.lemmas.Bool.{cases_lt}
 use Rattle.std.proofs.lemmas.Option.{same_Some}
-use Rattle.tipc_broadcast_law.specs.Groups.{Caster, length_now, mark, Member, numbered_now, packets, place, put, queue, window}
+use Rattle.tipc_types.specs.Limits.{window_size}
+use Rattle.tipc_broadcast_law.specs.Groups.{Caster, length_now, mark, Member, numbered_now, packets, place, put, queue}
 use Rattle.tipc_broadcast_law.specs.Events.{acknowledged, Changes, entered, in_step_from, joined_in, left, taking, without_contact, caster_begins, caster_ends, member_begins, member_ends, steps_in, takes, acknowledges}
 use Rattle.tipc_broadcast_law.specs.Law.{Keeps}
 use Rattle.tipc_broadcast_law.proofs.Places.{mark-within, packets-more, packets-none, put_cases, put_other, put_same, same_or_not}
@@ -181,8 +182,8 @@ steps a m k c0 s0 at none begun h =
       acked_from = h.acked_from;
       acked_place = λ c is. subst (λ p. k.acked ≤ p) (sym (still c)) (h.acked_place c is);
       numbered_near = h.numbered_near;
-      mark_near = λ c x e. subst (λ p. x < p + window + queue) (sym (still c)) (h.mark_near c x e);
-      joined_near = λ c is. subst (λ p. numbered_now a ≤ p + window) (sym (still c)) (h.joined_near c is);
+      mark_near = λ c x e. subst (λ p. x < p + window_size + queue) (sym (still c)) (h.mark_near c x e);
+      joined_near = λ c is. subst (λ p. numbered_now a ≤ p + window_size) (sym (still c)) (h.joined_near c is);
       place_near = λ c s e. subst (λ p. p ≤ a.numbered (k.boots c) + queue) (sym (still c)) (h.place_near c s e);
     }
 
@@ -280,8 +281,8 @@ begins a m k c0 above era free counted waiting h =
       acked_from = λ c s is e. let same : c0 ≡ c = same_Some c0 c is in let v : Some n ≡ Some s = sym (put_same c0 (Some n) k.begun) ∙ subst (λ d. put c0 (Some n) k.begun d ≡ Some s) (sym same) e in let j : n ≡ s = same_Some n s v in omega arith;
       acked_place = λ c is. let same : c0 ≡ c = same_Some c0 c is in subst (λ d. n ≤ place l d) same (omega (arith, here));
       numbered_near = λ c is. omega arith;
-      mark_near = λ c x e. subst (λ p. x < p + window + queue) (sym (other c (not_marked (k.boots c) c x e))) (h.mark_near c x e);
-      joined_near = λ c is. let same : c0 ≡ c = same_Some c0 c is in subst (λ d. numbered_now a ≤ place l d + window) same (omega (arith, here, counted));
+      mark_near = λ c x e. subst (λ p. x < p + window_size + queue) (sym (other c (not_marked (k.boots c) c x e))) (h.mark_near c x e);
+      joined_near = λ c is. let same : c0 ≡ c = same_Some c0 c is in subst (λ d. numbered_now a ≤ place l d + window_size) same (omega (arith, here, counted));
       place_near = λ c s e. elim (put_cases c0 (Some n) k.begun c (Some s) e) [ inl is ↦ subst (λ d. place l d ≤ a.numbered (k.boots d) + queue) (sym is.0) (subst (λ f. place l c0 ≤ a.numbered f + queue) (sym era) (omega (arith, here, waiting))) | inr old ↦ subst (λ p. p ≤ a.numbered (k.boots c) + queue) (sym (other c old.0)) (h.place_near c s old.1) ];
     }
 

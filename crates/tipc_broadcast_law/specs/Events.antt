@@ -1,7 +1,8 @@
 -- What may happen to a caster and its members. A packet that was numbered once may arrive anywhere at any time, and
 -- again; so may a STATE of a contact.
 use Rattle.std.specs.Prelude.{◌≡◌, ℕ, ◌+◌, ◌<◌, ◌≤◌, List, [], ◌∷◌, ◌++◌, Some, None}
-use Rattle.tipc_broadcast_law.specs.Groups.{Accepted, Caster, Group, length_now, mark, Member, numbered_now, packets, put, queue, window}
+use Rattle.tipc_types.specs.Limits.{window_size}
+use Rattle.tipc_broadcast_law.specs.Groups.{Accepted, Caster, Group, length_now, mark, Member, numbered_now, packets, put, queue}
 
 -- ---- at the caster
 
@@ -82,7 +83,7 @@ IsAlone g = (m : ℕ) → (g.members m).joined ≡ None
 pub data Happens (g : Group) : Group → Type 0 where
   accepts : (packet : List ℕ) → length_now g.caster < numbered_now g.caster + queue
       → Happens g (record { caster = line_with g.caster (accepting_entry g packet); members = g.members })
-  numbers : numbered_now g.caster < length_now g.caster → ((m c : ℕ) → (g.members m).joined ≡ Some c → numbered_now g.caster < (g.members m).acked + window)
+  numbers : numbered_now g.caster < length_now g.caster → ((m c : ℕ) → (g.members m).joined ≡ Some c → numbered_now g.caster < (g.members m).acked + window_size)
       → Happens g (record { caster = numbered_to g.caster (numbered_now g.caster + 1); members = g.members })
   -- with nobody in contact everything that waits is passed over
   empties : IsAlone g → Happens g (record { caster = numbered_to g.caster (length_now g.caster); members = g.members })

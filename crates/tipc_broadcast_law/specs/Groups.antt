@@ -39,10 +39,6 @@ pub record Group : Type 0 where
 abbrev pub put : {A : Type 0} → ℕ → A → (ℕ → A) → ℕ → A
 put k x f = λ j. if j == k then x else f j
 
--- how many packets may be numbered past a member's acknowledgement
-abbrev pub window : ℕ
-window = 50
-
 -- how many packets may wait: fewer than 200 and one message of 47 packets
 abbrev pub queue : ℕ
 queue = 246

@@ -1,6 +1,7 @@
 -- What is always true of a caster and its members.
 use Rattle.std.specs.Prelude.{◌≡◌, ℕ, ◌+◌, ◌<◌, ◌≤◌, [], length, Some, None}
-use Rattle.tipc_broadcast_law.specs.Groups.{Caster, Group, length_now, mark, Member, numbered_now, packets, place, queue, window}
+use Rattle.tipc_types.specs.Limits.{window_size}
+use Rattle.tipc_broadcast_law.specs.Groups.{Caster, Group, length_now, mark, Member, numbered_now, packets, place, queue}
 
 -- What is true of each member m, as a caster and the member keep it. Contacts are c and d, places x and y, starts s.
 pub record Keeps (a : Caster) (m : ℕ) (k : Member) : Type 0 where
@@ -34,10 +35,10 @@ pub record Keeps (a : Caster) (m : ℕ) (k : Member) : Type 0 where
   pub acked_from : (c s : ℕ) → k.joined ≡ Some c → k.begun c ≡ Some s → s ≤ k.acked
   pub acked_place : (c : ℕ) → k.joined ≡ Some c → k.acked ≤ place k c
   -- window: no more than 50 are numbered past the acknowledgement
-  pub numbered_near : (c : ℕ) → k.joined ≡ Some c → numbered_now a ≤ k.acked + window
+  pub numbered_near : (c : ℕ) → k.joined ≡ Some c → numbered_now a ≤ k.acked + window_size
   -- near: the member lags and leads by no more than window and waiting list allow
-  pub mark_near : (c x : ℕ) → mark (a.line (k.boots c)) m x ≡ Some c → x < place k c + window + queue
-  pub joined_near : (c : ℕ) → k.joined ≡ Some c → numbered_now a ≤ place k c + window
+  pub mark_near : (c x : ℕ) → mark (a.line (k.boots c)) m x ≡ Some c → x < place k c + window_size + queue
+  pub joined_near : (c : ℕ) → k.joined ≡ Some c → numbered_now a ≤ place k c + window_size
   pub place_near : (c s : ℕ) → k.begun c ≡ Some s → place k c ≤ a.numbered (k.boots c) + queue
 
 -- What is always true of a group: in each boot no more packets are numbered than were accepted, no more wait than may,

@@ -4,13 +4,13 @@ use Rattle.std.specs.Prelude.{◌≡◌, ◌⊎◌, true, ℕ, ◌+◌, ◌-◌,
 use Rattle.tipc_types.specs.Address.{IsNodeWord}
 use Rattle.tipc_types.specs.Position.{number_of}
 use Rattle.tipc_types.specs.declared.packet_lists.Taken.{Taken}
-use Rattle.tipc_types.specs.Limits.{most_age}
+use Rattle.tipc_types.specs.Limits.{most_age, window_size}
 use Rattle.tipc_recv_window.specs.declared.outcomes.LinkOutcome.{LinkOutcome}
 use Rattle.tipc_recv_window.specs.declared.outcomes.LinkOutcome.TheVariants as outcome
 use Rattle.tipc_recv_window.specs.Receiving.{Receiving}
 use Rattle.tipc_broadcast.specs.declared.contacts.Contact.{Contact}
 use Rattle.tipc_broadcast.specs.Contacts.{heard, heard_outcome, is_member, IsFree, joined, refusal, shown_in, told}
-use Rattle.tipc_broadcast_law.specs.Groups.{Accepted, Caster, Group, mark, Member, packets, queue, window}
+use Rattle.tipc_broadcast_law.specs.Groups.{Accepted, Caster, Group, mark, Member, packets, queue}
 use Rattle.tipc_broadcast_law.specs.Events.{entered, in_step_from, left, Runs}
 use Rattle.tipc_broadcast_law.specs.Law.{IsGroup}
 
@@ -83,7 +83,7 @@ pub record ToldNext (k : Member) (c next stamp : ℕ) : Type 0 where
   pub stamped : stamp ≤ numbered + queue
   pub place : ℕ
   pub had_come : HadCome k c place
-  pub near : stamp ≤ place + window + queue
+  pub near : stamp ≤ place + window_size + queue
 
 -- A STATE of the caster is taken, which it told in the contact, with the start and a next number; at most 30,000 were numbered since it left.
 abbrev pub TellRuns : Type 0
@@ -99,7 +99,7 @@ pub record IsCastAt (a : Caster) (boot x set stamp : ℕ) (packet : List ℕ) : 
   pub packet_is : packet ≡ entry.packet
   pub numbered : x < a.numbered boot
   pub members : (node : ℕ) → IsNodeWord node → is_member node set ≡ is_some (entry.members node)
-  pub stamped : stamp < x + 1 + window + queue
+  pub stamped : stamp < x + 1 + window_size + queue
 
 -- the packets that an arrival gives
 abbrev pub given : LinkOutcome → List (List ℕ)

@@ -1,8 +1,8 @@
 -- What follows for callers.
 use Rattle.std.specs.Prelude.{◌≡◌, ℕ, ◌+◌, ◌<◌, ◌≤◌, List, [], ◌++◌, map, Some, if◌then◌else◌}
 use Rattle.tipc_types.specs.Prefixes.{IsPrefixOf}
-use Rattle.tipc_types.specs.Limits.{most_age}
-use Rattle.tipc_broadcast_law.specs.Groups.{Accepted, accepted_for, Group, is_contact, mark, numbered_now, place, queue, window}
+use Rattle.tipc_types.specs.Limits.{most_age, window_size}
+use Rattle.tipc_broadcast_law.specs.Groups.{Accepted, accepted_for, Group, is_contact, mark, numbered_now, place, queue}
 use Rattle.tipc_broadcast_law.specs.Events.{accepting_entry, Happens, IsBegin, Runs}
 use Rattle.tipc_broadcast_law.specs.Law.{IsGroup}
 
@@ -50,20 +50,20 @@ AllReleaseInOrder = (g : Group) → IsGroup g → ReleasesInOrder g
 
 -- at most 50 packets are numbered past what any member in contact acknowledged
 abbrev pub WindowOf50 : Type 0
-WindowOf50 = (g : Group) → IsGroup g → (m c : ℕ) → (g.members m).joined ≡ Some c → numbered_now g.caster ≤ (g.members m).acked + window
+WindowOf50 = (g : Group) → IsGroup g → (m c : ℕ) → (g.members m).joined ≡ Some c → numbered_now g.caster ≤ (g.members m).acked + window_size
 
 -- A packet for the member in its contact lies near the place that it wants, as long as at most 30,000 were numbered since
 -- the event that sent it, after which `stamp` were numbered: so 16 bits tell places.
 abbrev pub PacketsAreNear : Type 0
 PacketsAreNear = (g : Group) → IsGroup g → (m c s x stamp : ℕ) → (g.members m).begun c ≡ Some s
     → mark (g.caster.line ((g.members m).boots c)) m x ≡ Some c
-    → stamp < x + 1 + window + queue → g.caster.numbered ((g.members m).boots c) ≤ stamp + most_age
-    → (x < place (g.members m) c + window + queue) × (place (g.members m) c ≤ x + 30542)
+    → stamp < x + 1 + window_size + queue → g.caster.numbered ((g.members m).boots c) ≤ stamp + most_age
+    → (x < place (g.members m) c + window_size + queue) × (place (g.members m) c ≤ x + 30542)
 
 -- The same of a packet that is for the member in whatever contact, while the member is in a contact that the caster began.
 -- Where it isn't before the wanted place, it is for the member in that contact.
 pub record IsNear (g : Group) (m c d x : ℕ) : Type 0 where
-  pub ahead : x < place (g.members m) c + window + queue
+  pub ahead : x < place (g.members m) c + window_size + queue
   pub behind : place (g.members m) c ≤ x + 30542
   pub own : place (g.members m) c ≤ x → d ≡ c
 
@@ -71,5 +71,5 @@ pub record IsNear (g : Group) (m c d x : ℕ) : Type 0 where
 abbrev pub AllAreNear : Type 0
 AllAreNear = (g : Group) → IsGroup g → (m c d s x stamp : ℕ) → (g.members m).at ≡ Some c → (g.members m).begun c ≡ Some s
     → mark (g.caster.line ((g.members m).boots c)) m x ≡ Some d
-    → stamp < x + 1 + window + queue → g.caster.numbered ((g.members m).boots c) ≤ stamp + most_age
+    → stamp < x + 1 + window_size + queue → g.caster.numbered ((g.members m).boots c) ≤ stamp + most_age
     → IsNear g m c d x

@@ -4,10 +4,10 @@ use Rattle.std.specs.Prelude.{max}
 use Rattle.tipc_types.specs.declared.link_words.BroadcastState.{BroadcastState}
 use Rattle.tipc_types.specs.declared.link_words.Why.{Why}
 use Rattle.tipc_types.specs.declared.packet_lists.Taken.{Taken}
-use Rattle.tipc_send_window.specs.Sending.{acked_of, IsSending}
+use Rattle.tipc_send_window.specs.Sending.{acked_of, IsSending, room}
 use Rattle.tipc_recv_window.specs.Receiving.{ahead, arrived_at, filled, fresh, is_new, past_wanted, Receiving}
 use Rattle.tipc_broadcast.specs.declared.contacts.Contact.{Contact}
-use Rattle.tipc_broadcast.specs.Casting.{answered, Casting, credited, flushed, informed, room, settled}
+use Rattle.tipc_broadcast.specs.Casting.{answered, Casting, credited, flushed, informed, settled}
 use Rattle.tipc_broadcast.specs.Contacts.{acked_by_all, acknowledging, contact_with, heard, noted_in, refusal, stepped, taken_in, told, with_changed}
 use Rattle.tipc_broadcast.proofs.Keeping.{acked_by_all-below, acknowledged_to-bounds, told-same}
 use Rattle.tipc_broadcast_law.proofs.calls.Crediting.{changed-here, changed-there}

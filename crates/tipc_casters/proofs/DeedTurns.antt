@@ -1,5 +1,5 @@
 -- What each deed at its broadcast link makes of a caster keeps what is true of it and its members; and so do deeds one behind the other.
-use Rattle.std.proofs.Common.{◌≡◌, ◌<◌, ◌≤◌, ◌+◌, ◌-◌, ◌^◌, ℕ, zero, suc, Bool, true, false, if◌then◌else◌, List, [], ◌∷◌, length, map, Option, Some, None, refl, sym, ap, subst, ◌∙◌, arith}
+use Rattle.std.proofs.Common.{◌≡◌, ◌<◌, ◌≤◌, ◌+◌, ◌-◌, ◌^◌, ℕ, Bool, true, false, List, [], ◌∷◌, length, map, Option, Some, None, refl, sym, ap, subst, ◌∙◌, arith}
 use Rattle.std.specs.Prelude.{is_some}
 use Rattle.std.proofs.lemmas.List.{length-append, length-map}
 use Rattle.tipc_types.specs.declared.link_words.BroadcastState.{BroadcastState}
@@ -10,8 +10,8 @@ use Rattle.tipc_header.specs.Spelling.{Fields}
 use Rattle.tipc_send_window.specs.Sending.{IsSending}
 use Rattle.tipc_recv_window.specs.Receiving.{Receiving}
 use Rattle.tipc_broadcast.specs.declared.contacts.Contact.{Contact}
-use Rattle.tipc_broadcast.specs.Casting.{accepted, accepting, answered, Casting, credited, flushed, hearing, informed, kept_for, left_with, moved_up, settled, stating, with_contacts, with_message}
-use Rattle.tipc_broadcast.specs.Contacts.{carried, contact_with, heard, member_set, refusal, taken_in, without}
+use Rattle.tipc_broadcast.specs.Casting.{accepted, accepting, Casting, flushed, hearing, kept_for, stating, with_contacts, with_message}
+use Rattle.tipc_broadcast.specs.Contacts.{carried, contact_with, heard, member_set, refusal, taken_in}
 use Rattle.tipc_broadcast.specs.Frames.{accepted_frame}
 use Rattle.tipc_broadcast.specs.Deeds.{CastDeed, IsLawful, after_deed, after_deeds, sends_nothing}
 use Rattle.tipc_broadcast.proofs.Apart.{accepted_flushed}

@@ -47,13 +47,14 @@ pub record SameView (w w' : MemberView) : Type 0 where
   pub told : All (Contains w.told) w'.told
   pub hears : All (Contains w.hears) w'.hears
 
+-- a caster and members that are seen the same stay cast
 abbrev pub SameStaysCast : Type 0
 SameStaysCast = (v v' : CasterView) (ws ws' : ℕ → MemberView) → AreCastSeen v ws → SameCaster v v' → ((m : ℕ) → IsOther v m → SameView (ws m) (ws' m))
     → AreCastSeen v' ws'
 
 -- ---- the begin
 
--- a caster that did nothing yet, and a member that was in no contact with it
+-- a caster that did nothing yet
 abbrev pub new_caster_view : ℕ → ℕ → CasterView
 new_caster_view own boot = record {
   casting = booted own boot;
@@ -64,9 +65,11 @@ new_caster_view own boot = record {
   sent = [];
 }
 
+-- a member that was in no contact with the caster yet
 abbrev pub new_member_view : MemberView
 new_member_view = record { at = None; entered = []; heard = None; given = λ own theirs. []; begun = fresh; told = []; hears = [] }
 
+-- a caster that did nothing yet is cast, with members that were in no contact with it
 abbrev pub BeginsCast : Type 0
 BeginsCast = (own boot : ℕ) → IsRight (booted own boot) → AreCastSeen (new_caster_view own boot) (λ m. new_member_view)
 
@@ -82,6 +85,7 @@ pub data SaysTo (v : CasterView) (w : MemberView) (t : Told) : Type 0 where
       → t.seen ≡ shown_in next start k.shown k.window → SaysTo v w t
   says_apart : t.seen.in_step ≡ false → SaysTo v w t
 
+-- a member tells the caster STATEs
 abbrev pub SaysStaysCast : Type 0
 SaysStaysCast = (v : CasterView) (ws : ℕ → MemberView) (m : ℕ) (more : List Told) → AreCastSeen v ws → IsOther v m → All (SaysTo v (ws m)) more
     → AreCastSeen v (with_view ws m (record (ws m) { told = (ws m).told ++ more }))
@@ -94,11 +98,13 @@ pub record MayEnter (v : CasterView) (w : MemberView) (m c : ℕ) : Type 0 where
   pub era : boot_in c ≤ v.casting.boot
   pub newest : All (λ d. d ≤ c) (v.entered m)
 
+-- a contact with the caster begins at a member, which has taken nothing in it yet
 abbrev pub EntersStaysCast : Type 0
 EntersStaysCast = (v : CasterView) (ws : ℕ → MemberView) (m c : ℕ) (k : Contact) → AreCastSeen v ws → IsOther v m → MayEnter v (ws m) m c
     → k.boot ≡ boot_in c → k.window ≡ None
     → AreCastSeen v (with_view ws m (record (ws m) { at = Some c; entered = (ws m).entered ++ c ∷ []; heard = Some k; begun = fresh }))
 
+-- the contact with the caster ends at a member
 abbrev pub QuitsStaysCast : Type 0
 QuitsStaysCast = (v : CasterView) (ws : ℕ → MemberView) (m : ℕ) (begun : Joining) → AreCastSeen v ws → IsOther v m
     → AreCastSeen v (with_view ws m (record (ws m) { at = None; heard = None; begun = begun }))
@@ -147,6 +153,8 @@ refused m boot set k = refusal m boot (set % 2 ^ 32) k
 abbrev pub given_at : ℕ → List (List ℕ) → (ℕ → ℕ → List (List ℕ)) → ℕ → ℕ → List (List ℕ)
 given_at c more given own theirs = given own theirs ++ (if contact_of own theirs == c then more else [])
 
+-- A frame of the caster is heard at a member in contact. What the packets that it gives are opened to is delivered there,
+-- and the rest is begun.
 abbrev pub TakesStaysCast : Type 0
 TakesStaysCast = (v : CasterView) (ws : ℕ → MemberView) (m c boot set by : ℕ) (p : Fields) (k l : Contact) (opened : List Opened) (begun : Joining)
     → AreCastSeen v ws → IsOther v m → (ws m).heard ≡ Some k → (ws m).at ≡ Some c → HearsFrame v boot set p

@@ -64,6 +64,9 @@ IsAmongSent sent f = (stamp : ℕ) × Contains sent (record { frame = f.frame; s
 abbrev pub IsOther : CasterView → ℕ → Type 0
 IsOther v m = IsNodeWord m × (m ≡ v.casting.own → ⊥)
 
+-- a caster did what is looked up of it: its broadcast link, numbers and contacts are the same; it entered each contact
+-- that began; what it put for a member are the packets of the messages that were accepted; and it sent at least the frames
+-- that are in the air
 pub record IsCasterSeen (a : CasterSight) (v : CasterView) : Type 0 where
   pub casting : a.casting ≡ v.casting
   pub numbered : (f : ℕ) → a.numbered f ≡ v.numbered f
@@ -86,6 +89,8 @@ pub record IsGivenIn (packets messages : List (List ℕ)) (at : Option ℕ) (con
   pub joined : IsJoinedOf packets messages last
   pub present : at ≡ Some contact → last ≡ begun
 
+-- a member did what is looked up of it: its contact and what it keeps of the caster are the same; the packets that it was
+-- given are joined to the messages that were delivered; and at least the STATEs that are in the air were told
 pub record IsMemberSeen (s : MemberSight) (w : MemberView) : Type 0 where
   pub at : s.at ≡ w.at
   pub last : (s.last ≡ 0) ⊎ Contains w.entered s.last

@@ -127,15 +127,7 @@ lost_slots x = originals x.session x.acked (x.line x.session) ++ plain_slots x.w
 -- the state after an event at the near link
 abbrev pub acted : State → Event → State
 acted s Put = record s { near = with_waiting s.near (s.near.waiting ++ Plain (s.put + 1) ∷ []); put = s.put + 1 }
-acted s (Number slot rest) = record {
-  near = with_number s.near slot rest;
-  near_record = s.near_record;
-  far = s.far;
-  far_record = s.far_record;
-  put = s.put;
-  numbered = s.numbered + plain_count slot;
-  delivered = s.delivered;
-}
+acted s (Number slot rest) = record s { near = with_number s.near slot rest; numbered = s.numbered + plain_count slot }
 acted s (Acknowledge places) = with_ends s (with_acked s.near places) s.far
 acted s Release = with_ends s (with_state s.near Reset) s.far
 acted s (Record session) = with_records s (record { session = session; taken = 0 }) s.far_record s.delivered

@@ -35,6 +35,7 @@ fn source_droppable(header: &Header) -> u32
     }
 }
 
+/// Word 0: version, user, header size, the three flags and the message size.
 #[tactic(auto, unfolding(crate::specs::Spelling::word_0))]
 fn first_word(packet: &Packet<'_>) -> u32
     requires { Fits (view packet.now) }
@@ -50,6 +51,7 @@ fn first_word(packet: &Packet<'_>) -> u32
         + packet.size() as u32
 }
 
+/// Word 1: the type, and what each user has below it.
 #[tactic(auto, unfolding(crate::specs::Spelling::word_1))]
 fn second_word(header: &Header) -> u32
     requires { HeaderFits header.now }
@@ -81,6 +83,7 @@ fn below_type(header: &Header) -> u32
     }
 }
 
+/// Word 2: the acknowledgement and the packet's own number.
 #[tactic(auto, unfolding(crate::specs::Spelling::word_2))]
 fn third_word(packet: &Packet<'_>) -> u32
     ensures { result ≡ word_2 (view packet.now) }
@@ -176,6 +179,7 @@ fn put_addressing(into: &mut Vec<u8>, addressing: &Addressing)
     }
 }
 
+/// Appends the words of a STATE from word 4 on.
 fn put_state(into: &mut Vec<u8>, state: &State)
     requires fits { StateFits state.now }
     requires room { vec_len into.old + 24 ≤ vec_capacity into.old }
@@ -194,6 +198,7 @@ fn put_state(into: &mut Vec<u8>, state: &State)
     );
 }
 
+/// Appends the words of a RESET or an ACTIVATE from word 4 on, and its contact numbers.
 fn put_reset(into: &mut Vec<u8>, reset: &Reset)
     requires fits { ResetFits reset.now }
     requires room { vec_len into.old + 40 ≤ vec_capacity into.old }
@@ -217,6 +222,7 @@ fn put_reset(into: &mut Vec<u8>, reset: &Reset)
     put_long(into, reset.peer_contact);
 }
 
+/// Appends the words of a tunnel packet from word 4 on, and the epoch of the other link.
 fn put_changeover(into: &mut Vec<u8>, changeover: &Changeover)
     requires fits { ChangeoverFits changeover.now }
     requires room { vec_len into.old + 32 ≤ vec_capacity into.old }

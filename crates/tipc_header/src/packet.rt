@@ -11,6 +11,7 @@ pub struct Packet<'a> {
     pub sequence: u16,
     /// The address of the node that put the packet on the bearer.
     pub previous: u32,
+    /// The user of the packet, with the fields that it adds.
     pub header: Header,
     /// What follows the fields: user bytes, inner packets, name items or a piece of a message.
     pub rest: &'a [u8],
@@ -57,8 +58,11 @@ pub struct Payload {
     pub lookup_scope: u8,
     /// The last broadcast number that the sender took.
     pub broadcast_acknowledgement: u16,
+    /// The number of the port that the message comes from.
     pub origin_port: u32,
+    /// The number of the port that the message is for; 0 in a multicast from nodes of this project.
     pub destination_port: u32,
+    /// How the message finds its port, which is also the message type.
     pub addressing: Addressing,
 }
 
@@ -69,22 +73,33 @@ pub enum Addressing {
     Connected,
     /// Type 1, 11 words: to every port that has a name in a range.
     Multicast {
+        /// The address of the node that the message comes from.
         origin_node: u32,
+        /// The address of the node that the message is for; 0 from nodes of this project. The decoder takes any.
         destination_node: u32,
+        /// The service type of the name.
         name_type: u32,
+        /// The lowest instance of the range.
         lower: u32,
+        /// The highest instance of the range.
         upper: u32,
     },
     /// Type 2, 10 words: to one port that has a name.
     Named {
+        /// The address of the node that the message comes from.
         origin_node: u32,
+        /// The address of the node that the message is for.
         destination_node: u32,
+        /// The service type of the name.
         name_type: u32,
+        /// The instance of the name.
         instance: u32,
     },
     /// Type 3, 8 words: to a port by its number.
     Direct {
+        /// The address of the node that the message comes from.
         origin_node: u32,
+        /// The address of the node that the message is for.
         destination_node: u32,
     },
 }
@@ -92,6 +107,7 @@ pub enum Addressing {
 /// Several packets in one. They follow, each padded to a multiple of 4 bytes.
 #[derive(Clone, Copy, Debug, PartialEq, Eq)]
 pub struct Bundle {
+    /// The last broadcast number that the sender took; 0 from nodes of this project, which tell it in STATE.
     pub broadcast_acknowledgement: u16,
     /// The number of inner packets, at least 2.
     pub count: u16,
@@ -102,6 +118,7 @@ pub struct Bundle {
 pub struct State {
     /// How many packets are missed before the first that is held, at most 8,191.
     pub gap: u16,
+    /// The last broadcast number of this peer that the sender took; 0 from a sender that isn't in step.
     pub broadcast_acknowledgement: u16,
     /// The number that the sender's next packet on the link will have.
     pub next: u16,
@@ -111,6 +128,7 @@ pub struct State {
     pub broadcast_start: u16,
     /// How many broadcast packets are missed.
     pub broadcast_gap: u16,
+    /// The address of the node that the packet is for.
     pub destination_node: u32,
     /// Whether an answer is asked for.
     pub probe: bool,
@@ -123,6 +141,7 @@ pub struct State {
 /// What an end of a link in reset tells the other, in RESET and ACTIVATE. Nothing follows.
 #[derive(Clone, Copy, Debug, PartialEq, Eq)]
 pub struct Reset {
+    /// The address of the node that the packet is for.
     pub destination_node: u32,
     /// The priority of the link, at most 31.
     pub priority: u8,
@@ -135,7 +154,9 @@ pub struct Reset {
 /// A packet of another link, or a sign that there is none. The inner packet follows, or nothing.
 #[derive(Clone, Copy, Debug, PartialEq, Eq)]
 pub struct Changeover {
+    /// What became of the other link, which is also the message type.
     pub changeover_type: ChangeoverType,
+    /// The last broadcast number that the sender took; 0 from nodes of this project, which tell it in STATE.
     pub broadcast_acknowledgement: u16,
     /// How many packets the run has. In a run of 0 the inner number is 0 and nothing follows.
     pub count: u16,
@@ -147,52 +168,70 @@ pub struct Changeover {
     pub old_epoch: u64,
 }
 
+/// Whether the link of a tunnel packet's inner packet keeps that packet too, or has given it up. (TIPC 2.0 draft.)
 #[derive(Clone, Copy, Debug, PartialEq, Eq)]
 pub enum ChangeoverType {
+    /// Type 0: the other link is up and keeps its packet, of which this is a copy.
     Duplicate,
+    /// Type 1: the other link went down, and its packet travels here alone.
     Original,
 }
 
 /// Publications or withdrawals: 1 to 70 items of 20 bytes follow.
 #[derive(Clone, Copy, Debug, PartialEq, Eq)]
 pub struct NameDistribution {
+    /// What the items are, which is also the message type.
     pub distribution_type: DistributionType,
+    /// The last broadcast number that the sender took; 0 from nodes of this project, which tell it in STATE.
     pub broadcast_acknowledgement: u16,
 }
 
+/// Whether names are published or withdrawn. (TIPC 2.0 draft.)
 #[derive(Clone, Copy, Debug, PartialEq, Eq)]
 pub enum DistributionType {
+    /// Type 0: the items are published.
     Publication,
+    /// Type 1: the items are withdrawn.
     Withdrawal,
 }
 
 /// A piece of a message, of 1 to 1,412 bytes, which follow.
 #[derive(Clone, Copy, Debug, PartialEq, Eq)]
 pub struct Fragment {
+    /// Which piece it is, which is also the message type.
     pub fragment_type: FragmentType,
+    /// The last broadcast number that the sender took; 0 from nodes of this project, which tell it in STATE.
     pub broadcast_acknowledgement: u16,
     /// The place of the piece in its message, from 1.
     pub number: u16,
 }
 
+/// Which piece of its message a fragment is. (TIPC 2.0 draft.)
 #[derive(Clone, Copy, Debug, PartialEq, Eq)]
 pub enum FragmentType {
+    /// Type 0: the first piece.
     First,
+    /// Type 1: a piece between the first and the last.
     Middle,
+    /// Type 2: the last piece.
     Last,
 }
 
 /// How nodes of a network find each other. Nothing follows.
 #[derive(Clone, Copy, Debug, PartialEq, Eq)]
 pub struct Discovery {
+    /// Whether it asks or answers, which is also the message type.
     pub discovery_type: DiscoveryType,
     /// The identity of the network.
     pub network: u32,
 }
 
+/// Whether a node asks who is there, or answers. (TIPC 2.0 draft.)
 #[derive(Clone, Copy, Debug, PartialEq, Eq)]
 pub enum DiscoveryType {
+    /// Type 0: the sender asks who is there.
     Request,
+    /// Type 1: the sender answers a request.
     Response,
 }
 

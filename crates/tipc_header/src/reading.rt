@@ -10,6 +10,7 @@ use crate::packet::{
     Fragment, FragmentType, Header, NameDistribution, Payload, Reset, State,
 };
 
+/// How a message of this type is addressed.
 #[tactic(auto, unfolding(crate::specs::Reading::addressing_at))]
 fn addressing(message_type: u32, bytes: &[u8]) -> Addressing
     requires { 4 * size_of_type 0 message_type ≤ length bytes.now }
@@ -37,6 +38,7 @@ fn addressing(message_type: u32, bytes: &[u8]) -> Addressing
     }
 }
 
+/// The header of a message between ports, of this type.
 #[tactic(auto, unfolding(crate::specs::Reading::payload_at))]
 fn payload(message_type: u32, bytes: &[u8]) -> Header
     requires { 4 * size_of_type 0 message_type ≤ length bytes.now }
@@ -56,6 +58,7 @@ fn payload(message_type: u32, bytes: &[u8]) -> Header
     })
 }
 
+/// The header of a bundle.
 #[tactic(auto, unfolding(crate::specs::Reading::bundle_at))]
 fn bundle(bytes: &[u8]) -> Header
     requires { 40 ≤ length bytes.now }
@@ -67,6 +70,7 @@ fn bundle(bytes: &[u8]) -> Header
     })
 }
 
+/// The header of a STATE.
 #[tactic(auto, unfolding(crate::specs::Reading::state_at))]
 fn state(bytes: &[u8]) -> Header
     requires { 40 ≤ length bytes.now }
@@ -86,6 +90,7 @@ fn state(bytes: &[u8]) -> Header
     })
 }
 
+/// The fields of a RESET or an ACTIVATE.
 #[tactic(auto, unfolding(crate::specs::Reading::reset_at))]
 fn reset(bytes: &[u8]) -> Reset
     requires { 56 ≤ length bytes.now }
@@ -99,6 +104,7 @@ fn reset(bytes: &[u8]) -> Reset
     }
 }
 
+/// The header of a tunnel packet of this type.
 #[tactic(auto, unfolding(crate::specs::Reading::changeover_at))]
 fn changeover(message_type: u32, bytes: &[u8]) -> Header
     requires { 48 ≤ length bytes.now }
@@ -118,6 +124,7 @@ fn changeover(message_type: u32, bytes: &[u8]) -> Header
     })
 }
 
+/// The header of name items of this type.
 #[tactic(auto, unfolding(crate::specs::Reading::distribution_at))]
 fn distribution(message_type: u32, bytes: &[u8]) -> Header
     requires { 40 ≤ length bytes.now }
@@ -133,6 +140,7 @@ fn distribution(message_type: u32, bytes: &[u8]) -> Header
     })
 }
 
+/// The header of a fragment of this type.
 #[tactic(auto, unfolding(crate::specs::Reading::fragment_at))]
 fn fragment(message_type: u32, bytes: &[u8]) -> Header
     requires { 40 ≤ length bytes.now }
@@ -149,6 +157,7 @@ fn fragment(message_type: u32, bytes: &[u8]) -> Header
     })
 }
 
+/// The header of a discovery packet of this type.
 #[tactic(auto, unfolding(crate::specs::Reading::discovery_at))]
 fn discovery(message_type: u32, bytes: &[u8]) -> Header
     requires { 40 ≤ length bytes.now }

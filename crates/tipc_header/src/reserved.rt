@@ -6,6 +6,8 @@ ghost use Rattle.tipc_header.specs.Faults.{word_0_is_clean, payload_is_clean, bu
 
 use crate::bits::{are_zero, field_of, word};
 
+/// Whether word 0 is allowed for this user: bit 17 is zero, bit 20 is set exactly where the user's packets have no number,
+/// and only a message between ports may be dropped.
 #[tactic(auto, unfolding(crate::specs::Faults::word_0_is_clean))]
 pub(crate) fn is_first_word_clean(user: u32, bytes: &[u8]) -> bool
     requires { 24 ≤ length bytes.now }
@@ -36,6 +38,7 @@ pub(crate) fn is_user_clean(user: u32, message_type: u32, bytes: &[u8]) -> bool
     }
 }
 
+/// Whether the fields of a message between ports are allowed: the unused bits are zero, and the error code is at most 5.
 #[tactic(auto, unfolding(crate::specs::Faults::payload_is_clean))]
 fn is_payload_clean(bytes: &[u8]) -> bool
     requires { 24 ≤ length bytes.now }
@@ -44,6 +47,7 @@ fn is_payload_clean(bytes: &[u8]) -> bool
     field_of(bytes, 1, 18, 16) == 0 && field_of(bytes, 1, 28, 25) <= 5
 }
 
+/// Whether the fields of a bundle are allowed: at least 2 packets, in a multiple of 4 bytes.
 #[tactic(auto, unfolding(crate::specs::Faults::bundle_is_clean))]
 fn is_bundle_clean(bytes: &[u8]) -> bool
     requires { 40 ≤ length bytes.now }
@@ -61,6 +65,7 @@ fn is_bundle_clean(bytes: &[u8]) -> bool
     are_zero(&unused) && field_of(bytes, 4, 31, 16) >= 2 && (bytes.len() - 40) % 4 == 0
 }
 
+/// Whether the fields of a STATE are allowed, behind which nothing follows.
 #[tactic(auto, unfolding(crate::specs::Faults::state_is_clean))]
 fn is_state_clean(bytes: &[u8]) -> bool
     requires { 40 ≤ length bytes.now }
@@ -75,6 +80,7 @@ fn is_state_clean(bytes: &[u8]) -> bool
     are_zero(&unused) && bytes.len() == 40
 }
 
+/// Whether the fields of a RESET or an ACTIVATE are allowed, behind whose contact numbers nothing follows.
 #[tactic(auto, unfolding(crate::specs::Faults::reset_is_clean))]
 fn is_reset_clean(bytes: &[u8]) -> bool
     requires { 40 ≤ length bytes.now }
@@ -93,6 +99,7 @@ fn is_reset_clean(bytes: &[u8]) -> bool
     are_zero(&unused) && bytes.len() == 56
 }
 
+/// Whether the fields of a tunnel packet are allowed; in a run of 0 the inner number is 0 and nothing follows.
 #[tactic(auto, unfolding(crate::specs::Faults::changeover_is_clean))]
 fn is_changeover_clean(bytes: &[u8]) -> bool
     requires { 40 ≤ length bytes.now }
@@ -112,6 +119,7 @@ fn is_changeover_clean(bytes: &[u8]) -> bool
         && (is_run || (field_of(bytes, 4, 15, 0) == 0 && bytes.len() == 48))
 }
 
+/// Whether the fields of name items are allowed: 1 to 70 items of 20 bytes follow.
 #[tactic(auto, unfolding(crate::specs::Faults::distribution_is_clean))]
 fn is_distribution_clean(bytes: &[u8]) -> bool
     requires { 40 ≤ length bytes.now }
@@ -130,6 +138,7 @@ fn is_distribution_clean(bytes: &[u8]) -> bool
     are_zero(&unused) && items >= 20 && items <= 1400 && items % 20 == 0
 }
 
+/// Whether the fields of a fragment are allowed: its number is at least 1, and 1 to 1,412 bytes follow.
 #[tactic(auto, unfolding(crate::specs::Faults::fragment_is_clean))]
 fn is_fragment_clean(bytes: &[u8]) -> bool
     requires { 40 ≤ length bytes.now }
@@ -148,6 +157,7 @@ fn is_fragment_clean(bytes: &[u8]) -> bool
     are_zero(&unused) && field_of(bytes, 4, 15, 0) >= 1 && piece >= 1 && piece <= 1412
 }
 
+/// Whether the fields of a discovery packet are allowed, behind which nothing follows.
 #[tactic(auto, unfolding(crate::specs::Faults::discovery_is_clean))]
 fn is_discovery_clean(bytes: &[u8]) -> bool
     requires { 40 ≤ length bytes.now }

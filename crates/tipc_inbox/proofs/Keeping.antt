@@ -172,7 +172,3 @@ empties i v may held views h at =
     let offered = ap (λ (xs : List Message). length xs) h.turn in
     let all = length-append h.taken held in
     omega (arith, low, mine, offered, all)
-
-pub compares : (i : ℕ) (v : Log) → v.gives ≡ true → v.takes ≡ true → Learns InTurn i v (λ held. (v.offered ≡ v.taken ++ held) × (length held ≤ 128))
-compares i v may may' held views h at =
-    ((h.gives i v at may).1 ∙ h.turn ∙ ap (λ (xs : List Message). xs ++ held) (sym (h.takes i v at may').1), h.few)

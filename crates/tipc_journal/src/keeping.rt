@@ -145,6 +145,10 @@ impl Journal {
     }
 
     /// Makes `spare` at least that many. It doesn't fail where they are spare already.
+    ///
+    /// # Errors
+    ///
+    /// NoMemory where memory runs out, and then nothing is changed.
     pub fn reserve(&mut self, entries: u64) -> Result<(), NoMemory>
         ensures ok { OnOk result (self.new ≡ reserved self.old entries) }
         ensures succeeds { entries ≤ self.old.spare → IsOk result }
@@ -156,6 +160,10 @@ impl Journal {
     }
 
     /// Keeps memory apart for at least that many short steps.
+    ///
+    /// # Errors
+    ///
+    /// NoMemory where memory runs out, or 64 bits can't count the entries. Nothing is changed then.
     pub fn keep(&mut self, steps: u64) -> Result<(), NoMemory>
         ensures ok { OnOk result (self.new ≡ keeping self.old steps) }
         ensures err { OnErr result (self.new ≡ self.old) }

@@ -78,7 +78,8 @@ pub fn subscriptions_follow()
 
 /// One more entry adds what it tells a subscription behind the journal before it.
 pub fn transitions_follow()
-    ensures { (J : List Entry) (e : Entry) (n : ℕ) → transitions (J ++ e ∷ []) n ≡ transitions J n ++ told_by_entry n J e }
+    ensures { (J : List Entry) (e : Entry) (n : ℕ)
+        → transitions (J ++ e ∷ []) n ≡ transitions J n ++ told_by_entry n J e }
 {}
 
 /// One more whole step behind whole steps is the last step, beside the journal before it.

@@ -10,14 +10,14 @@ use Rattle.tipc_types.specs.Position.{number_of}
 use Rattle.tipc_types.specs.declared.packet_lists.Kept.{Kept}
 use Rattle.tipc_types.specs.declared.packet_lists.Taken.{Taken}
 use Rattle.tipc_types.proofs.PositionLaws.{distance_of-ahead, distance_of-behind}
-use Rattle.tipc_send_window.specs.Sending.{Sending, acked_of, acknowledged, kept_after, kept_of, offered, release_count, swapped}
+use Rattle.tipc_send_window.specs.Sending.{Sending, acked_of, acknowledged, kept_after, kept_of, offered, release_count, swapped, advanced, room}
 use Rattle.tipc_send_window.specs.Sending as window
 use Rattle.tipc_send_window.proofs.Keeping.{kept_at}
 use Rattle.tipc_recv_window.specs.Receiving.{Receiving, arrived_at, filled, is_new, past_wanted, run_of}
 use Rattle.tipc_recv_window.proofs.ArrivalLaws as by_position
 use Rattle.tipc_recv_window.proofs.Holding.{filled-other, filled-same, length-filled}
 use Rattle.tipc_recv_window.proofs.Runs.{run_leaves}
-use Rattle.tipc_link.specs.Sessions.{SessionEnd, Carries, advanced, due_with, is_behind, receiving, repeated, room, took, window_with}
+use Rattle.tipc_link.specs.Sessions.{SessionEnd, Carries, due_with, is_behind, receiving, repeated, took, window_with}
 use Rattle.tipc_link.specs.Records.{standing}
 use Rattle.tipc_link.proofs.Standing.{arrived_early, standing_either}
 use Rattle.tipc_link.specs.Direction.{IsDirection, IsReceiver, Flight, IsCarried, IsFlight, IsFresh, packet_flight, state_flight}

@@ -7,8 +7,8 @@ use Rattle.tipc_outside.proofs.Adding.{adds_more, adds_none}
 use Rattle.std.proofs.lemmas.Option.{slice_get-get_or}
 use Rattle.std.proofs.Math.Seq.{take-add}
 use Rattle.tipc_outside.specs.Frames.{Adds, Out}
-use Rattle.tipc_send_window.specs.Sending.{Sending}
-use Rattle.tipc_link.specs.Sessions.{SessionEnd, advanced, sent, room, packet_frame, packet_frames, flush_frames, flushed}
+use Rattle.tipc_send_window.specs.Sending.{Sending, advanced, room}
+use Rattle.tipc_link.specs.Sessions.{SessionEnd, sent, packet_frame, packet_frames, flush_frames, flushed}
 
 advanced-none : (s : Sending) → advanced 0 s ≡ s
 advanced-none s = let u : s.unacked ++ [] ≡ s.unacked = append-nil s.unacked in let n : s.numbered + 0 ≡ s.numbered = omega arith in rw (u, n) refl

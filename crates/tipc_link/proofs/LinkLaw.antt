@@ -7,8 +7,8 @@ use Rattle.std.proofs.Math.ListN.{get_or-append}
 use Rattle.std.proofs.Math.Seq.{take-add}
 use Rattle.tipc_types.specs.declared.packet_lists.Kept.{Kept}
 use Rattle.tipc_types.specs.declared.packet_lists.Taken.{Taken}
-use Rattle.tipc_send_window.specs.Sending.{Sending, acknowledged, fresh, kept_of}
-use Rattle.tipc_link.specs.Sessions.{SessionEnd, Unanswered, all_answered, Content, Shows, Carries, Nothing, IsPut, arrival_moving, arrived, brought, due_with, flushed, gap, is_due, joins, moving, noted, after_acknowledgement, repeated, room, spoke, took, waits}
+use Rattle.tipc_send_window.specs.Sending.{Sending, acknowledged, fresh, kept_of, room}
+use Rattle.tipc_link.specs.Sessions.{SessionEnd, Unanswered, all_answered, Content, Shows, Carries, Nothing, IsPut, arrival_moving, arrived, brought, due_with, flushed, gap, is_due, joins, moving, noted, after_acknowledgement, repeated, spoke, took, waits}
 use Rattle.tipc_link.specs.Direction.{IsDirection, Flight, IsFresh, IsFlight, packet_flight, state_flight}
 use Rattle.tipc_link.specs.Laws.{Side, AreJoined, arrival_flights, flush_flights, kept_flight, packet_flights, taken_from, AnswersStayJoined, ArrivalsStayJoined, BeginJoined, JoinedGivePrefix, PutsStayJoined, StatesStayJoined, TurnJoined}
 use Rattle.tipc_link.proofs.Directions.{arrives, holds_none, moves_up, offers, releases, swaps, repeated_from, slice_get-from_take, Extends-append, Extends-same, IsCarried-kept-later, IsCarried-stays, IsFlight-carried, IsFlight-packet, IsFlight-state, IsFlight-stays, IsReceiver-stays, IsTaken}

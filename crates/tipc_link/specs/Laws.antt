@@ -5,7 +5,8 @@ use Rattle.tipc_types.specs.Position.{number_of}
 use Rattle.tipc_types.specs.Prefixes.{IsPrefixOf}
 use Rattle.tipc_types.specs.declared.packet_lists.Kept.{Kept}
 use Rattle.tipc_types.specs.declared.packet_lists.Taken.{Taken}
-use Rattle.tipc_link.specs.Sessions.{SessionEnd, Content, Shows, Carries, Nothing, IsPut, answered, arrival_moving, arrived, begun, brought, due_with, flushed, gap, heard, is_due, moving, after_acknowledgement, repeated, room, after_state}
+use Rattle.tipc_link.specs.Sessions.{SessionEnd, Content, Shows, Carries, Nothing, IsPut, answered, arrival_moving, arrived, begun, brought, due_with, flushed, gap, heard, is_due, moving, after_acknowledgement, repeated, after_state}
+use Rattle.tipc_send_window.specs.Sending.{room}
 use Rattle.tipc_link.specs.Direction.{Flight, IsDirection, IsFlight, IsFresh, IsReceiver, packet_flight, state_flight}
 
 -- one side: its end, every packet that it numbered, every packet that it took, and every frame that it sent

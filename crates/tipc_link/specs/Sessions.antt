@@ -6,7 +6,7 @@ use Rattle.tipc_types.specs.declared.link_words.BroadcastState.{BroadcastState}
 use Rattle.tipc_types.specs.declared.link_words.Why.TheVariants as why
 use Rattle.tipc_types.specs.declared.packet_lists.Kept.{Kept}
 use Rattle.tipc_types.specs.declared.packet_lists.Taken.{Taken}
-use Rattle.tipc_types.specs.Limits.{most_packet_bytes, window_size}
+use Rattle.tipc_types.specs.Limits.{most_packet_bytes}
 use Rattle.tipc_outside.specs.Frames.{Made}
 use Rattle.tipc_outside.specs.declared.outgoing.Outgoing.{Outgoing}
 use Rattle.tipc_header.specs.declared.packet.Header.{Header}
@@ -16,7 +16,7 @@ use Rattle.tipc_header.specs.declared.contents.HeaderContent.TheVariants as cont
 use Rattle.tipc_header.specs.Contents.{header_content}
 use Rattle.tipc_header.specs.Spelling.{Fields, spelling}
 use Rattle.tipc_header.specs.Frames.{frame_of, sent_as, stamped}
-use Rattle.tipc_send_window.specs.Sending.{Sending, fresh, offered, acknowledged, emptied, kept_of, swapped, without_waiting}
+use Rattle.tipc_send_window.specs.Sending.{Sending, fresh, offered, acknowledged, emptied, kept_of, swapped, without_waiting, advanced, room}
 use Rattle.tipc_recv_window.specs.declared.outcomes.LinkOutcome.{LinkOutcome}
 use Rattle.tipc_recv_window.specs.declared.outcomes.Place.{Place}
 use Rattle.tipc_recv_window.specs.declared.outcomes.Place.TheVariants as place
@@ -283,14 +283,6 @@ abbrev pub tunnel_count : SessionEnd → ℕ
 tunnel_count e = min (count_by is_tunnel e.sending.unacked + count_by is_tunnel e.sending.waiting) 4294967295
 
 -- ---- moving up
-
--- how many of the waiting packets the window has room for
-abbrev pub room : Sending → ℕ
-room s = min (window_size - length s.unacked) (length s.waiting)
-
--- the first n waiting packets are numbered
-abbrev pub advanced : ℕ → Sending → Sending
-advanced n s = record { numbered = s.numbered + n; unacked = s.unacked ++ take n s.waiting; waiting = drop n s.waiting }
 
 -- the end when the first n waiting packets were numbered and sent
 abbrev pub sent : ℕ → SessionEnd → SessionEnd

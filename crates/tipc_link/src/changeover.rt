@@ -8,7 +8,7 @@ ghost use Rattle.tipc_types.specs.declared.packet_lists.Taken.{Taken};
 ghost use Rattle.tipc_types.specs.declared.link_words.OldSession.{OldSession};
 ghost use Rattle.tipc_send_window.specs.Sending.{IsSending, kept_of};
 ghost use Rattle.tipc_link_fsm.specs.Table.{on_peer_tunnel, release};
-ghost use Rattle.tipc_link.specs.Records.{bytes_of, is_changeover, is_tunnel, named, tunnelled, tunnelled_outcome};
+ghost use Rattle.tipc_link.specs.Records.{bytes_of, is_changeover, is_next, is_tunnel, named, tunnelled, tunnelled_outcome};
 ghost use Rattle.tipc_link.specs.Links.{is_answer};
 ghost use Rattle.tipc_link.specs.Sessions.{IsWaiting, SessionEnd};
 ghost use Rattle.tipc_link.specs.Hearings.{HoldsNone};
@@ -150,7 +150,7 @@ impl Link {
     ///
     /// # Errors
     ///
-    /// Where memory runs out. Nothing is changed then.
+    /// Where memory runs out for the wanted packet. Nothing is changed then.
     pub fn take_tunnelled(
         &mut self,
         alloc: Global,
@@ -164,6 +164,8 @@ impl Link {
             (record { number = number; packet = bytes_of inner; by = by })) }
         ensures after { OnOk result
             (self.new ≡ tunnelled_end self.old epoch (record { number = number; packet = bytes_of inner; by = by })) }
+        ensures wanted { OnErr result (is_next (named (record_of self.old) epoch) epoch
+            (record { number = number; packet = bytes_of inner; by = by }) ≡ true) }
         ensures err { OnErr result (self.new ≡ self.old) }
     {
         let packet = Taken {
@@ -226,6 +228,7 @@ fn take_early(
 ) -> Result<LinkOutcome, NoMemory>
     ensures outcome { IfOk result (λ o. o ≡ tunnelled_outcome (named early.old epoch) epoch packet) }
     ensures after { OnOk result (early.new ≡ Some (tunnelled (named early.old epoch) epoch packet)) }
+    ensures wanted { OnErr result (is_next (named early.old epoch) epoch packet ≡ true) }
     ensures held { HoldsNone early.old → HoldsNone early.new }
     ensures err { OnErr result (early.new ≡ early.old) }
 {

@@ -349,8 +349,8 @@ impl Link {
         }
     }
 
-    /// What a packet that arrived under an envelope of these two epochs makes of the link: `es` is the sender's, `er` this end's as
-    /// the sender knows it. `held` says that the pair's other link is up, and `by` is the arrival's number at this node.
+    /// What a packet that arrived under an envelope of these two epochs makes of the link: the sender's own, and this end's as the
+    /// sender knows it. `held` says that the pair's other link is up, and `by` is the arrival's number at this node.
     ///
     /// It tells what becomes of the link's state, and what the session takes of a STATE or a packet with a number. Nothing is
     /// changed yet: [`Link::commit`] does it.
@@ -361,22 +361,24 @@ impl Link {
     pub fn prepare(
         &self,
         alloc: Global,
-        es: u64,
-        er: u64,
+        sender_epoch: u64,
+        receiver_epoch: u64,
         packet: &Packet<'_>,
         held: bool,
         by: u64,
     ) -> Result<Arriving, NoMemory>
         requires { Fits (view packet.now) }
-        ensures states { IfOk result (λ a. a.states ≡ outcome_of self.now.fsm packet.now.header es er held) }
+        ensures states { IfOk result (λ a. a.states ≡ outcome_of self.now.fsm packet.now.header sender_epoch
+            receiver_epoch held) }
         ensures by { IfOk result (λ a. a.hearing.by ≡ by) }
         ensures arriving { IfOk result (λ a. IsArriving self.now (view packet.now) a) }
         ensures heard_only { OnErr result
-            (is_heard packet.now.header (outcome_of self.now.fsm packet.now.header es er held).change ≡ true) }
+            (is_heard packet.now.header (outcome_of self.now.fsm packet.now.header sender_epoch receiver_epoch
+            held).change ≡ true) }
         ensures numbered { OnErr result (is_numbered packet.now.header ≡ true) }
     {
         let mut fsm = self.fsm.copy()?;
-        let change = change_of(&mut fsm, &packet.header, es, er, held);
+        let change = change_of(&mut fsm, &packet.header, sender_epoch, receiver_epoch, held);
         let hearing = self.prepare_session(alloc, &fsm, change, packet, by)?;
         Ok(Arriving {
             fsm,
@@ -483,17 +485,17 @@ impl Link {
     pub fn reset(
         &mut self,
         alloc: Global,
-        es: u64,
+        sender_epoch: u64,
         held: bool,
         shown: BroadcastState,
         out: &mut Outbox,
     ) -> LinkArrival
-        ensures change { result.change ≡ (on_reset self.old.fsm es held).change }
-        ensures outcome { result.outcome ≡ change_outcome (on_reset self.old.fsm es held).change }
-        ensures after { self.new ≡ after self.old (on_reset self.old.fsm es held) }
-        ensures frames { AddsFirst out.old out.new (frames self.old (on_reset self.old.fsm es held) shown) }
+        ensures change { result.change ≡ (on_reset self.old.fsm sender_epoch held).change }
+        ensures outcome { result.outcome ≡ change_outcome (on_reset self.old.fsm sender_epoch held).change }
+        ensures after { self.new ≡ after self.old (on_reset self.old.fsm sender_epoch held) }
+        ensures frames { AddsFirst out.old out.new (frames self.old (on_reset self.old.fsm sender_epoch held) shown) }
     {
-        let change = self.fsm.on_reset(es, held);
+        let change = self.fsm.on_reset(sender_epoch, held);
         self.follow(alloc, change, shown, out);
         LinkArrival {
             change,
@@ -669,14 +671,23 @@ pub fn is_down(change: Change) -> bool
 }
 
 /// Gives a packet to the link states.
-fn change_of(fsm: &mut LinkFsm, header: &Header, es: u64, er: u64, held: bool) -> Change
-    ensures change { result ≡ (outcome_of fsm.old header.now es er held).change }
-    ensures after { fsm.new ≡ (outcome_of fsm.old header.now es er held).after }
+fn change_of(
+    fsm: &mut LinkFsm,
+    header: &Header,
+    sender_epoch: u64,
+    receiver_epoch: u64,
+    held: bool,
+) -> Change
+    ensures change { result ≡ (outcome_of fsm.old header.now sender_epoch receiver_epoch held).change }
+    ensures after { fsm.new ≡ (outcome_of fsm.old header.now sender_epoch receiver_epoch held).after }
 {
     match header.content() {
-        HeaderContent::Notice(Notice::Reset(_)) => fsm.on_reset(es, held),
-        HeaderContent::Notice(Notice::Activate(_)) => fsm.on_activate(es, er),
-        HeaderContent::State(_) | HeaderContent::Numbered => fsm.on_traffic(es, er),
+        HeaderContent::Notice(Notice::Reset(_)) => fsm.on_reset(sender_epoch, held),
+        HeaderContent::Notice(Notice::Activate(_)) => fsm.on_activate(sender_epoch, receiver_epoch),
+        HeaderContent::State(_) | HeaderContent::Numbered => fsm.on_traffic(
+            sender_epoch,
+            receiver_epoch,
+        ),
         HeaderContent::Discovery => Change::Ignore(Why::Epoch),
     }
 }

@@ -9,7 +9,7 @@ ghost use Rattle.tipc_types.specs.declared.packet_lists.Kept.{Kept};
 ghost use Rattle.tipc_types.specs.declared.packet_lists.Taken.{Taken};
 ghost use Rattle.tipc_send_window.specs.Sending.{IsSending, kept_of};
 ghost use Rattle.tipc_recv_window.specs.Receiving.{coming, next_of};
-ghost use Rattle.tipc_link.specs.Records.{is_early_tunnel, is_tunnel, named, tunnelled, tunnelled_outcome};
+ghost use Rattle.tipc_link.specs.Records.{is_early_tunnel, is_next, is_tunnel, named, tunnelled, tunnelled_outcome};
 ghost use Rattle.tipc_link.specs.Links.{name_of};
 ghost use Rattle.tipc_link.specs.Sessions.{is_behind};
 
@@ -78,7 +78,8 @@ impl Model for Session {
 
 impl Session {
     ghost use Rattle.tipc_types.specs.Limits.{window_size};
-    ghost use Rattle.tipc_link.specs.Sessions.{all_answered, answer_frames, answered, begun_with, flush_frames, flushed, gap, given_up, highest, is_due, is_numbered, noted, packet_frame, put, priority_of, receiving, receiving_record, after_acknowledgement, repeat_frames, repeated, room, sent, spoke, state_fields, state_frame, after_state, took, tunnel_count, waiting_given, wanted, with_broadcast, with_last, with_record, IsPut, IsWaiting, MayJoin, SessionEnd};
+    ghost use Rattle.tipc_link.specs.Sessions.{all_answered, answer_frames, answered, begun_with, flush_frames, flushed, gap, given_up, highest, is_due, is_numbered, noted, packet_frame, put, priority_of, receiving, receiving_record, after_acknowledgement, repeat_frames, repeated, sent, spoke, state_fields, state_frame, after_state, took, tunnel_count, waiting_given, wanted, with_broadcast, with_last, with_record, IsPut, IsWaiting, MayJoin, SessionEnd};
+    ghost use Rattle.tipc_send_window.specs.Sending.{room};
     ghost use Rattle.tipc_link.specs.Hearings.{coming_of, IsHearing, IsJoined};
 
     /// An end that is up, in the session of these two epochs, over a bearer 0 or 1, with this receiving record.
@@ -437,7 +438,7 @@ impl Session {
     ///
     /// # Errors
     ///
-    /// Where memory runs out. Nothing is changed then.
+    /// Where memory runs out for the wanted packet. Nothing is changed then.
     #[tactic(auto, using(crate::proofs::Takings::named_above, crate::proofs::Takings::named_below, crate::proofs::Takings::tunnelled_epoch))]
     pub fn take_tunnelled(
         &mut self,
@@ -449,6 +450,7 @@ impl Session {
             (named (Some (receiving_record self.old)) epoch) epoch packet) }
         ensures after { OnOk result (self.new ≡ with_record self.old
             (tunnelled (named (Some (receiving_record self.old)) epoch) epoch packet)) }
+        ensures wanted { OnErr result (is_next (named (Some (receiving_record self.old)) epoch) epoch packet ≡ true) }
         ensures err { OnErr result (self.new ≡ self.old) }
     {
         if self.received.epoch() >= epoch {
@@ -466,6 +468,7 @@ impl Session {
         ensures outcome { IfOk result (λ o. o ≡ tunnelled_outcome (receiving_record self.old) epoch packet) }
         ensures after { OnOk result (self.new ≡ with_record self.old
             (tunnelled (receiving_record self.old) epoch packet)) }
+        ensures wanted { OnErr result (is_next (receiving_record self.old) epoch packet ≡ true) }
         ensures err { OnErr result (self.new ≡ self.old) }
     {
         self.received.receive(alloc, epoch, packet)

@@ -1,12 +1,12 @@
 //! Packets that arrive, as a link and its session take them: what is sent again leaves before what moves up.
 
-ghost use Rattle.std.specs.Prelude.{◌≡◌, Some, IfOk, OnErr, OnOk};
+ghost use Rattle.std.specs.Prelude.{◌≡◌, Some, true, IfOk, OnErr, OnOk};
 ghost use Rattle.tipc_types.specs.declared.packet_lists.Taken.{Taken};
 ghost use Rattle.tipc_header.specs.Spelling.{view};
 ghost use Rattle.tipc_header.specs.Grammar.{Fits};
 ghost use Rattle.tipc_outside.specs.Frames.{Adds, AddsFirst, Gains};
-ghost use Rattle.tipc_link.specs.Links.{outcome_of};
-ghost use Rattle.tipc_link.specs.Sessions.{SessionEnd, content_of};
+ghost use Rattle.tipc_link.specs.Links.{is_heard, outcome_of};
+ghost use Rattle.tipc_link.specs.Sessions.{SessionEnd, content_of, is_numbered};
 ghost use Rattle.tipc_link.specs.Hearings.{IsArriving, IsHearing};
 
 use crate::arriving::Arriving;
@@ -150,12 +150,12 @@ impl Link {
     ///
     /// # Errors
     ///
-    /// Where memory runs out. Nothing is changed then, and nothing is sent.
+    /// Where memory runs out for a packet with a number that the session hears. Nothing is changed then, and nothing is sent.
     pub fn arrive(
         &mut self,
         alloc: Global,
-        es: u64,
-        er: u64,
+        sender_epoch: u64,
+        receiver_epoch: u64,
         packet: &Packet<'_>,
         held: bool,
         by: u64,
@@ -163,16 +163,22 @@ impl Link {
         out: &mut Outbox,
     ) -> Result<LinkArrival, NoMemory>
         requires { Fits (view packet.now) }
-        ensures change { IfOk result (λ a. a.change ≡ (outcome_of self.old.fsm packet.now.header es er held).change) }
+        ensures change { IfOk result (λ a. a.change ≡ (outcome_of self.old.fsm packet.now.header sender_epoch
+            receiver_epoch held).change) }
         ensures outcome { IfOk result (λ a. a.outcome ≡ link_outcome self.old
-            (outcome_of self.old.fsm packet.now.header es er held) (view packet.now) by) }
+            (outcome_of self.old.fsm packet.now.header sender_epoch receiver_epoch held) (view packet.now) by) }
         ensures after { OnOk result (self.new ≡ arrival_end self.old
-            (outcome_of self.old.fsm packet.now.header es er held) (view packet.now) by) }
+            (outcome_of self.old.fsm packet.now.header sender_epoch receiver_epoch held) (view packet.now) by) }
         ensures frames { OnOk result (Gains out.old out.new
-            (link_frames self.old (outcome_of self.old.fsm packet.now.header es er held) (view packet.now) by shown)) }
+            (link_frames self.old (outcome_of self.old.fsm packet.now.header sender_epoch receiver_epoch held)
+            (view packet.now) by shown)) }
+        ensures heard_only { OnErr result
+            (is_heard packet.now.header (outcome_of self.old.fsm packet.now.header sender_epoch receiver_epoch
+            held).change ≡ true) }
+        ensures numbered { OnErr result (is_numbered packet.now.header ≡ true) }
         ensures err { OnErr result ((self.new ≡ self.old) × (out.new ≡ out.old)) }
     {
-        let arriving = self.prepare(alloc, es, er, packet, held, by)?;
+        let arriving = self.prepare(alloc, sender_epoch, receiver_epoch, packet, held, by)?;
         Ok(self.commit(alloc, arriving, packet, shown, out))
     }
 

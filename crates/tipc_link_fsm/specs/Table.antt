@@ -77,11 +77,11 @@ lowered s held =
 
 -- an up end that heard its peer
 abbrev pub heard : Fsm → Fsm
-heard s = record { own = s.own; peer = s.peer; highest = s.highest; state = WorkingWorking; silent = 0 }
+heard s = record s { state = WorkingWorking; silent = 0 }
 
 -- an end that took this epoch of its peer
 abbrev pub took_epoch : Fsm → ℕ → LinkState → Fsm
-took_epoch s es state = record { own = s.own; peer = Some es; highest = es; state = state; silent = 0 }
+took_epoch s es state = record s { peer = Some es; highest = es; state = state; silent = 0 }
 
 -- a RESET arrives. The rows, the first that fits:
 --   an end that is held ignores it
@@ -120,14 +120,7 @@ on_traffic s es er =
 
 -- an up end that wasn't heard for one more tick; from two on its state is WORKING_UNKNOWN
 abbrev pub unheard : Fsm → Fsm
-unheard s =
-    record {
-      own = s.own;
-      peer = s.peer;
-      highest = s.highest;
-      state = if nat_le 1 s.silent then WorkingUnknown else WorkingWorking;
-      silent = s.silent + 1;
-    }
+unheard s = record s { state = if nat_le 1 s.silent then WorkingUnknown else WorkingWorking; silent = s.silent + 1 }
 
 -- a tick at an up end: at a silent count of 4 it goes down; else the count rises and it sends STATE,
 -- which probes where the count was at least 1 before
@@ -161,7 +154,7 @@ on_peer_tunnel s epoch =
 unfoldable pub release : Fsm → Outcome
 release s =
     if is_held s.state
-    then gives (record { own = s.own; peer = s.peer; highest = s.highest; state = ResetUnknown; silent = s.silent }) (Answer reply.Reset)
+    then gives (record s { state = ResetUnknown }) (Answer reply.Reset)
     else gives s Stay
 
 -- an end whose contact ended: it takes a new epoch and forgets the peer's
@@ -170,7 +163,7 @@ apart s = record { own = next_epoch s.own; peer = None; highest = s.highest; sta
 
 -- an end that forgets the peer's epoch
 abbrev pub forgot_peer : Fsm → Fsm
-forgot_peer s = record { own = s.own; peer = None; highest = s.highest; state = ResetUnknown; silent = s.silent }
+forgot_peer s = record s { peer = None; state = ResetUnknown }
 
 -- the contact ended: the end goes down or stays down, and a RESET is to be sent in either case
 unfoldable pub contact_ended : Fsm → Outcome

@@ -16,8 +16,8 @@ const MOST_SILENT_TICKS: u8 = 4;
 /// its state and its silent count. (States: TIPC 2.0 draft; epochs, Held and the silent count: this project's
 /// profile.)
 ///
-/// An epoch has the boot number in its upper 32 bits and a count in its lower ones. `es` and `er` are the two
-/// epochs of an arriving frame: its sender's own, and the receiver's as the sender knows it.
+/// An epoch has the boot number in its upper 32 bits and a count in its lower ones. An arriving frame has two: its sender's own
+/// (`sender_epoch`), and the receiver's as the sender knows it (`receiver_epoch`).
 #[derive(Drop)]
 pub struct LinkFsm {
     own: u64,
@@ -76,42 +76,42 @@ impl LinkFsm {
     ///
     /// After Down(PeerReset) without `held` the contact ends, and then the same RESET is to be given again.
     #[tactic(auto, unfolding(crate::specs::Table::on_reset))]
-    pub fn on_reset(&mut self, es: u64, held: bool) -> Change
-        ensures after { self.new ≡ (on_reset self.old es held).after }
-        ensures change { result ≡ (on_reset self.old es held).change }
+    pub fn on_reset(&mut self, sender_epoch: u64, held: bool) -> Change
+        ensures after { self.new ≡ (on_reset self.old sender_epoch held).after }
+        ensures change { result ≡ (on_reset self.old sender_epoch held).change }
     {
         if is_held(self.state) {
             return Change::Ignore(Why::Held);
         }
-        if es < self.highest || self.state.is_up() && self.is_peer(es) {
+        if sender_epoch < self.highest || self.state.is_up() && self.is_peer(sender_epoch) {
             return Change::Ignore(Why::Epoch);
         }
         if self.state.is_up() {
             self.lower(held);
             return Change::Down(Cause::PeerReset);
         }
-        self.peer = Some(es);
-        self.highest = es;
+        self.peer = Some(sender_epoch);
+        self.highest = sender_epoch;
         self.state = LinkState::ResetReset;
         Change::Answer(Reply::Activate)
     }
 
     /// An ACTIVATE arrived.
     #[tactic(auto, unfolding(crate::specs::Table::on_activate))]
-    pub fn on_activate(&mut self, es: u64, er: u64) -> Change
-        ensures after { self.new ≡ (on_activate self.old es er).after }
-        ensures change { result ≡ (on_activate self.old es er).change }
+    pub fn on_activate(&mut self, sender_epoch: u64, receiver_epoch: u64) -> Change
+        ensures after { self.new ≡ (on_activate self.old sender_epoch receiver_epoch).after }
+        ensures change { result ≡ (on_activate self.old sender_epoch receiver_epoch).change }
     {
         if is_held(self.state) {
             return Change::Ignore(Why::Held);
         }
-        if self.may_go_up() && er == self.own && es >= self.highest {
-            self.peer = Some(es);
-            self.highest = es;
+        if self.may_go_up() && receiver_epoch == self.own && sender_epoch >= self.highest {
+            self.peer = Some(sender_epoch);
+            self.highest = sender_epoch;
             self.state = LinkState::WorkingWorking;
             return Change::Up;
         }
-        if self.state.is_up() && self.is_session(es, er) {
+        if self.state.is_up() && self.is_session(sender_epoch, receiver_epoch) {
             self.hear();
             return Change::Stay;
         }
@@ -120,11 +120,11 @@ impl LinkFsm {
 
     /// A STATE or a numbered packet arrived. It is taken by the link where the answer is Up or Stay.
     #[tactic(auto, unfolding(crate::specs::Table::on_traffic))]
-    pub fn on_traffic(&mut self, es: u64, er: u64) -> Change
-        ensures after { self.new ≡ (on_traffic self.old es er).after }
-        ensures change { result ≡ (on_traffic self.old es er).change }
+    pub fn on_traffic(&mut self, sender_epoch: u64, receiver_epoch: u64) -> Change
+        ensures after { self.new ≡ (on_traffic self.old sender_epoch receiver_epoch).after }
+        ensures change { result ≡ (on_traffic self.old sender_epoch receiver_epoch).change }
     {
-        if !self.is_session(es, er) {
+        if !self.is_session(sender_epoch, receiver_epoch) {
             return Change::Ignore(Why::Epoch);
         }
         if self.state == LinkState::ResetReset && self.may_go_up() {
@@ -252,20 +252,20 @@ impl LinkFsm {
     }
 
     /// Whether the peer's epoch is known and is this one.
-    fn is_peer(&self, es: u64) -> bool
-        ensures { result ≡ is_peer self.now.peer es }
+    fn is_peer(&self, sender_epoch: u64) -> bool
+        ensures { result ≡ is_peer self.now.peer sender_epoch }
     {
         match self.peer {
-            Some(peer) => peer == es,
+            Some(peer) => peer == sender_epoch,
             None => false,
         }
     }
 
     /// Whether the two epochs of a frame are those of the session.
-    fn is_session(&self, es: u64, er: u64) -> bool
-        ensures { result ≡ is_session self.now es er }
+    fn is_session(&self, sender_epoch: u64, receiver_epoch: u64) -> bool
+        ensures { result ≡ is_session self.now sender_epoch receiver_epoch }
     {
-        self.is_peer(es) && er == self.own
+        self.is_peer(sender_epoch) && receiver_epoch == self.own
     }
 
     /// Whether it is in reset, and may go up under its own epoch.

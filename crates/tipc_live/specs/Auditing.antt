@@ -79,6 +79,7 @@ pub record IsWholeRun {P : Type 0} (gives : P → ℕ → ℕ → ℕ → Type 0
   pub arrivals : length m.arrivals ≡ length n.heard
   pub heard : HaveBytes replay.air m.arrivals n.heard
 
+-- the replay has just these nodes, each run whole
 pub record AreReplayed {P : Type 0} (gives : P → ℕ → ℕ → ℕ → Type 0) (nodes : List (LockedState P)) (replay : ReplayState) : Type 0 where
   pub each : (place : ℕ) (n : LockedState P) → slice_get nodes place ≡ Some n →
       (m : MemberState) × (slice_index_or replay.members (locked_number n) None ≡ Some m) × IsWholeRun gives replay n m

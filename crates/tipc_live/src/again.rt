@@ -38,9 +38,10 @@ fn happen<P: Pick>(
     requires can { CanHappenAt replay.old.members event }
     requires next { HasNextBoot replay.old.members event }
     ensures { IfOk result (λ made. MatchOption made
-        (IsUnmade replay.old replay.new chooser.old chooser.new × (has_room_at replay.old.members (node_of event) ≡ false))
-        (λ a. IsReplayStep replay.old by event replay.new a
-        × ChoosesAt (λ p. P.gives p.now) replay.old.members event a chooser.old chooser.new)) }
+        (IsUnmade replay.old replay.new chooser.old chooser.new ×
+        (has_room_at replay.old.members (node_of event) ≡ false))
+        (λ a. IsReplayStep replay.old by event replay.new a ×
+        ChoosesAt (λ p. P.gives p.now) replay.old.members event a chooser.old chooser.new)) }
 {
     let answer = match replay.step(alloc, event, by, chooser) {
         Ok(answer) => Some(answer),
@@ -67,7 +68,8 @@ fn has_frame(replay: &Replay, n: u8, bearer: u8, place: u64, bytes: &[u8]) -> bo
 /// The place of the latest frame in the air of a bearer that is for node `n` and has these bytes.
 fn latest_frame(replay: &Replay, n: u8, bearer: u8, bytes: &[u8]) -> Option<u64>
     requires { (1 ≤ n) × (n ≤ 32) }
-    ensures { MatchOption result (HasNoFrame replay.now.air n bearer bytes.now) (IsLatest replay.now.air n bearer bytes.now) }
+    ensures { MatchOption result (HasNoFrame replay.now.air n bearer bytes.now)
+        (IsLatest replay.now.air n bearer bytes.now) }
 {
     let mut place = replay.air_len(bearer);
     while place > 0 {
@@ -102,7 +104,8 @@ fn arrive_again<P: Pick>(
     requires number { (1 ≤ n) × (n ≤ 32) }
     requires there { has_member replay.old.members n ≡ true }
     requires bearer { bearer ≤ 1 }
-    ensures { IfOk result (IsOutcomeOfBytes (λ p. P.gives p.now) replay.old replay.new n by bearer bytes.now chooser.old chooser.new) }
+    ensures { IfOk result (IsOutcomeOfBytes (λ p. P.gives p.now) replay.old replay.new n by bearer bytes.now
+        chooser.old chooser.new) }
 {
     let Some(frame) = latest_frame(replay, n, bearer, bytes) else {
         return Ok(Again::NoFrame);
@@ -139,7 +142,8 @@ fn call_again<P: Pick>(
 ) -> Result<Again, NoMemory>
     requires there { has_member replay.old.members n ≡ true }
     requires can { CanPerform call.now }
-    ensures { IfOk result (IsOutcomeOfCall (λ p. P.gives p.now) replay.old replay.new n by call.now chooser.old chooser.new) }
+    ensures { IfOk result (IsOutcomeOfCall (λ p. P.gives p.now) replay.old replay.new n by call.now chooser.old
+        chooser.new) }
 {
     let event = event_of(n, call)?;
     match happen(replay, alloc, event, by, chooser)? {
@@ -165,7 +169,8 @@ pub fn make_again<P: Pick>(
     requires number { (1 ≤ n) × (n ≤ 32) }
     requires there { has_member replay.old.members n ≡ true }
     requires can { CanBeAgain heard.now call.now }
-    ensures { IfOk result (IsOutcomeOf (λ p. P.gives p.now) replay.old replay.new heard.now n by call.now chooser.old chooser.new) }
+    ensures { IfOk result (IsOutcomeOf (λ p. P.gives p.now) replay.old replay.new heard.now n by call.now chooser.old
+        chooser.new) }
 {
     match call {
         EventNote::Arrive { bearer, number } => {

@@ -10,8 +10,8 @@ pub enum Audit {
         /// The stamp.
         stamp: u64,
     },
-    /// A pass tells of this call, the first by node, caller and number, otherwise than its node's journal does; or its pass was told, behind
-    /// this call, that the journal is full, and the journal has room.
+    /// A pass tells of this call, the first by node, caller and number, otherwise than its node's journal does; or this is the call behind
+    /// all that the pass tells, at which it was told that the journal is full, and the journal has room.
     Told {
         /// The node's number.
         node: u8,

@@ -23,7 +23,8 @@ use tipc_types::NoMemory;
 ///
 /// Each answer is shown by the nodes and the replay, as the clause says. At Yes the replay holds just the journals of the nodes, and what
 /// arrived has the bytes that were heard, so what [`Replay::good`] tells of the replay is told of them. It takes the time of the steps, but for
-/// the sort by stamp and for the frames that are looked at behind the one that arrived.
+/// the sort by stamp, for the passes, each of which is compared with all steps of its node, and for the frames that are
+/// looked at behind the one that arrived.
 ///
 /// # Errors
 ///

@@ -59,8 +59,8 @@ fn follow<P: Pick>(
     requires follows { HasFollowed P.gives nodes.now replay.old step.now.by.stamp }
     requires turned { AreTurned (λ p. p.now) nodes.now replay.old choosers.old }
     ensures { IfOk result (λ found. MatchOption found
-        (HasFollowed P.gives nodes.now replay.new (step.now.by.stamp + 1) × AreTurned (λ p. p.now) nodes.now replay.new choosers.new)
-        (ShowsAnswer P.gives nodes.now replay.new)) }
+        (HasFollowed P.gives nodes.now replay.new (step.now.by.stamp + 1) ×
+        AreTurned (λ p. p.now) nodes.now replay.new choosers.new) (ShowsAnswer P.gives nodes.now replay.new)) }
 {
     let locked = &nodes[step.node];
     let chooser = &mut choosers[step.node];

@@ -25,7 +25,8 @@ pub struct CallName {
 /// it was told that the journal is full and that has room.
 fn told_otherwise<P>(locked: &LockedNode<P>, steps: &[KeptStep], pass: &Pass) -> Option<u64>
     requires { (node : ℕ) × (steps.now ≡ kept_in node locked.now.node.journal) }
-    ensures { MatchOption result (TellsTrue locked.now.node.journal pass.now) (TellsOtherwise locked.now.node.journal pass.now) }
+    ensures { MatchOption result (TellsTrue locked.now.node.journal pass.now)
+        (TellsOtherwise locked.now.node.journal pass.now) }
 {
     let told = pass.made();
     if let Some(call) = first_difference(journal_of(locked), steps, pass.caller(), told) {

@@ -81,7 +81,8 @@ pub fn first_difference(
 ) -> Option<u64>
     requires whole { IsWhole entries.now }
     requires steps { (node : ℕ) × (steps.now ≡ kept_in node entries.now) }
-    ensures { MatchOption result (told.now ≡ steps_by caller entries.now) (DifferAt told.now (steps_by caller entries.now)) }
+    ensures { MatchOption result (told.now ≡ steps_by caller entries.now)
+        (DifferAt told.now (steps_by caller entries.now)) }
 {
     let mut number = 0;
     for step in steps {

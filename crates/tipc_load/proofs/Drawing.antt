@@ -3,16 +3,14 @@ use Rattle.std.proofs.Common.{◌≡◌, ℕ, ◌+◌, ◌*◌, ◌/◌, ◌%◌
 use Rattle.std.specs.Prelude.{nat_le}
 use Rattle.std.specs.List.{flat_map}
 use Rattle.std.specs.Fmt.{decimal}
-use Rattle.std.proofs.lemmas.Bool.{false_from_ne_true, le-leb, leb-true, eq-eqb, ne_eqb}
+use Rattle.std.proofs.lemmas.Bool.{false_from_ne_true, le-leb, leb-true, ne_eqb}
 use Rattle.std.proofs.lemmas.Fmt.{decimal_digit}
 use Rattle.std.proofs.lemmas.Grind.{flat_map-append}
-use Rattle.tipc_types.specs.declared.message_forms.Importance.TheVariants as level
-use Rattle.tipc_script.specs.declared.lines.Destination.TheVariants as destination
 use Rattle.tipc_script.specs.declared.lines.Line.TheVariants as line
 use Rattle.tipc_script.specs.Kinds.{pattern}
 use Rattle.tipc_script.specs.Spelling.{body_word}
 use Rattle.tipc_script.proofs.Bodies.{pattern_word}
-use Rattle.tipc_load.specs.Load.{closing, drawn, drawn_line, drawn_lines, generated, line_text, next_state, opening, service_of, state_after}
+use Rattle.tipc_load.specs.Load.{closing, drawn, drawn_line, drawn_lines, generated, line_text, next_state, opening, state_after}
 
 -- a product and a sum that go round are one that goes round once
 pub one_step : (state : ℕ) → ((state * 6364136223846793005) % 18446744073709551616 + 1442695040888963407) % 18446744073709551616 ≡ next_state state
@@ -29,22 +27,11 @@ star count = pattern_word count
 above : (a b : ℕ) → b < a → nat_le a b ≡ false
 above a b lt = false_from_ne_true _ (λ e. omega (arith, leb-true a b e))
 
--- the line of a drawn number, by its first part
-pub draws_send : (v : ℕ) → v % 16 ≤ 8
-    → drawn_line v ≡ line.Send (1 + v / 16 % 4) 1 (destination.Name (1001 + v / 64 % 4) (1 + v / 256 % 5)) level.Low (pattern (v / 4096 % 3000))
-draws_send v low =
-    let same : service_of (1 + v / 64 % 4) ≡ 1001 + v / 64 % 4 = omega arith in
-    rw (le-leb (v % 16) 8 low) (ap (λ s. line.Send (1 + v / 16 % 4) 1 (destination.Name s (1 + v / 256 % 5)) level.Low (pattern (v / 4096 % 3000))) same)
-
 pub draws_receive : (v : ℕ) → 9 ≤ v % 16 → v % 16 ≤ 11 → drawn_line v ≡ line.Receive (1 + v / 16 % 4) 1
 draws_receive v high low = rw (above (v % 16) 8 (omega arith), le-leb (v % 16) 11 low) refl
 
 pub draws_settle : (v : ℕ) → 12 ≤ v % 16 → v % 16 ≤ 13 → drawn_line v ≡ line.Settle 1
 draws_settle v high low = rw (above (v % 16) 8 (omega arith), above (v % 16) 11 (omega arith), le-leb (v % 16) 13 low) refl
-
-pub draws_cut : (v : ℕ) → v % 16 ≡ 14 → drawn_line v ≡ line.Cut (1 + v / 16 % 4) (v / 2048 % 2)
-draws_cut v is =
-    rw (above (v % 16) 8 (omega arith), above (v % 16) 11 (omega arith), above (v % 16) 13 (omega arith), eq-eqb (v % 16) 14 is) refl
 
 pub draws_mend : (v : ℕ) → 14 < v % 16 → drawn_line v ≡ line.Mend (1 + v / 16 % 4) (v / 2048 % 2)
 draws_mend v high =

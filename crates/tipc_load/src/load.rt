@@ -98,7 +98,9 @@ fn send_text(
     Ok(format!(in alloc; "send {node} 1 name {service} {instance} low *{count}")?.into_bytes())
 }
 
-/// The line that a drawn number stands for.
+/// The line that a drawn number stands for. Its lowest four bits say which line it is: of sixteen nine send, three receive,
+/// two settle, one cuts and one mends. Bits 4 and 5 say the node, bits 6 and 7 whose service a message is for, those from 8
+/// on, modulo 5, which of its instances, bit 11 the bearer, and those from 12 on, modulo 3,000, how long the message is.
 fn drawn_text(alloc: Global, draw: u32) -> Result<Vec<u8>, NoMemory>
     ensures { IfOk result (λ text. text.items ≡ spelling_of (drawn_line draw)) }
 {
@@ -129,6 +131,10 @@ fn push_line(script: &mut Vec<u8>, line: &[u8]) -> Result<(), NoMemory>
 }
 
 /// The script that a number stands for.
+///
+/// # Errors
+///
+/// Where memory runs out.
 pub fn generate(alloc: Global, seed: u64) -> Result<Vec<u8>, NoMemory>
     ensures { IfOk result (λ script. script.items ≡ generated seed) }
 {

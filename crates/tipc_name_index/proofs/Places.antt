@@ -22,11 +22,6 @@ ranges_total = on_total range_of nat_list_cmp_total
 pub names_total : IsTotalOrder name_cmp
 names_total = on_total name_of nat_list_cmp_total
 
-pub then_equal : (o : Ordering) → ordering_then o Equal ≡ o
-then_equal Less = refl
-then_equal Equal = refl
-then_equal Greater = refl
-
 -- what comes first in an order doesn't fall
 first_rises : (a b : ℕ) (o : Ordering) → ordering_then (nat_cmp a b) o ≡ Less → a ≤ b
 first_rises a b o e = by (nat_cmp a b) (ranked a b (nat_cmp a b) refl) e

@@ -1,7 +1,7 @@
 -- The same publications in two orders.
-use Rattle.std.proofs.Common.{◌≡◌, ℕ, suc, ◌+◌, ◌≤◌, Bool, true, false, cond, ◌&&◌, ◌||◌, not, List, [], ◌∷◌, ◌++◌, Contains, filter, refl, sym, ap, ap₂, subst, ◌∙◌, true≢false, eqb-true, arith, IsPermutation}
+use Rattle.std.proofs.Common.{◌≡◌, ℕ, suc, ◌+◌, ◌≤◌, Bool, true, false, cond, ◌&&◌, not, List, [], ◌∷◌, ◌++◌, Contains, filter, refl, sym, ap, ap₂, subst, ◌∙◌, true≢false, eqb-true, arith, IsPermutation}
 use Rattle.std.specs.Prelude.{count_by, find, Option, None, Some, unwrap_or, ◌==◌}
-use Rattle.std.specs.List.{list_any, AllByRecursion, AllPairs}
+use Rattle.std.specs.List.{AllByRecursion, AllPairs}
 use Rattle.std.specs.List.Sorted.{IsStrictlySortedBy}
 use Rattle.std.specs.Ordering.{is_lt}
 use Rattle.std.specs.declared.cmp.Ordering.TheVariants.{Less}
@@ -14,7 +14,7 @@ use Rattle.std.proofs.lemmas.List.Sums.{sum_by-append, sum_by-cons}
 use Rattle.tipc_types.specs.declared.services.Publication.{Publication}
 use Rattle.tipc_types.specs.declared.services.Scope.{Scope}
 use Rattle.tipc_types.specs.declared.services.Scope.TheVariants.{Zone, Cluster, Node}
-use Rattle.tipc_types.specs.Tables.{is_named, is_of, place_cmp, put, stands_before}
+use Rattle.tipc_types.specs.Tables.{is_named, place_cmp, put, stands_before}
 use Rattle.tipc_types.proofs.Places.{count_by-put}
 use Rattle.tipc_name_index.specs.Ranges.{AreSame}
 use Rattle.tipc_name_index.proofs.Order.{none_counted}
@@ -239,15 +239,6 @@ in_order_is (p ∷ ps) (q ∷ qs) h k s = ap₂ (λ r rs. r ∷ rs) (sym first) 
 
 -- ---- one that passes a test is among those that are kept
 
-pub any_kept : (test kept : Publication → Bool) → ((p : Publication) → test p ≡ true → kept p ≡ true) → (ps : List Publication) → list_any test (filter kept ps) ≡ list_any test ps
-any_kept test kept h [] = refl
-any_kept test kept h (p ∷ ps) = by (kept p) (test p) refl refl (any_kept test kept h ps)
-  where
-    by : (b c : Bool) → kept p ≡ b → test p ≡ c → list_any test (filter kept ps) ≡ list_any test ps → list_any test (cond b (p ∷ filter kept ps) (filter kept ps)) ≡ test p || list_any test ps
-    by true c e f rest = ap (λ (b : Bool). test p || b) rest
-    by false true e f rest = absurd (true≢false (sym (h p f) ∙ e))
-    by false false e f rest = rest ∙ ap (λ (b : Bool). b || list_any test ps) (sym f)
-
 pub find_kept : (test kept : Publication → Bool) → ((p : Publication) → test p ≡ true → kept p ≡ true) → (ps : List Publication) → find test (filter kept ps) ≡ find test ps
 find_kept test kept h [] = refl
 find_kept test kept h (p ∷ ps) = by (kept p) (test p) refl refl (find_kept test kept h ps)
@@ -256,7 +247,3 @@ find_kept test kept h (p ∷ ps) = by (kept p) (test p) refl refl (find_kept tes
     by true c e f rest = ap (λ (o : Option Publication). cond (test p) (Some p) o) rest
     by false true e f rest = absurd (true≢false (sym (h p f) ∙ e))
     by false false e f rest = rest ∙ ap (λ (b : Bool). cond b (Some p) (find test ps)) (sym f)
-
--- what is of a node and key is of the node
-pub named_of : (node key : ℕ) (p : Publication) → is_named node key p ≡ true → is_of node p ≡ true
-named_of node key p e = (both_true (p.at.node.word == node) (p.key == key) e).0

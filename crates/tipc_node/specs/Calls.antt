@@ -115,21 +115,10 @@ pub record Performs (n : NodeState) (by : By) (call : EventNote) (n' : NodeState
 
 -- What a call needs of its arguments: what is mended or cut is one of the two bearers. An arrival isn't performed.
 abbrev pub CanPerform : EventNote → Type 0
-CanPerform Socket = Unit {0}
-CanPerform (Close port) = Unit {0}
-CanPerform (Publish port range scope key) = Unit {0}
-CanPerform (Withdraw port key) = Unit {0}
-CanPerform (SendName port kind instance importance body) = Unit {0}
-CanPerform (SendPort port to importance body) = Unit {0}
-CanPerform (Multicast port kind lower upper importance body) = Unit {0}
-CanPerform (Receive port) = Unit {0}
-CanPerform (Subscribe asked) = Unit {0}
-CanPerform (Cancel number) = Unit {0}
-CanPerform (NextEvent number) = Unit {0}
-CanPerform Tick = Unit {0}
 CanPerform (Cut bearer) = bearer ≤ 1
 CanPerform (Mend bearer) = bearer ≤ 1
-CanPerform other = ⊥
+CanPerform (Arrive bearer number) = ⊥
+CanPerform other = Unit {0}
 
 -- a call that takes no memory where it was promised: it takes out what waits, or a subscription, or a publication of which no peer is told
 abbrev pub TakesNoMemory : SocketTable → EventNote → Type 0

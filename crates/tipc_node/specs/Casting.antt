@@ -63,11 +63,6 @@ broadcast_in said = record {
   in_step = said.in_step;
 }
 
--- whether an arrival gave what its link took
-abbrev pub is_given : PairOutcome → Bool
-is_given (PairOutcome.Took opened) = true
-is_given other = false
-
 -- what an arrival tells of broadcast: that is told by a STATE that the links took
 abbrev pub stated_in : Header → PairOutcome → Option BroadcastState
 stated_in (header.State said) (PairOutcome.Took opened) = Some (broadcast_in said)

@@ -1,5 +1,5 @@
 -- What a node's journal tells of the node: it is whole steps, each answered as it may be, in which each message has its fate; and contacts,
--- links that are up, sockets and names are what it says. What a packet tells of its sender.
+-- links that are up, sockets and names are what it says.
 use Rattle.std.specs.Prelude.{◌≡◌, ◌≤◌, ◌<◌, IfSome, ℕ, Bool, true, false, List, [], Option, Some, None, option_and_then}
 use Rattle.std.specs.List.{All, list_all}
 use Rattle.tipc_types.specs.Address.{node_word}
@@ -80,5 +80,3 @@ pub record IsTold (n : NodeState) : Type 0 where
   pub answered : AllAnsweredToCallers n.journal
   pub fates : AllHaveFates (addr_of_word n.own) n.journal
   pub full : AllFull n.journal
-
--- ---- a packet

@@ -288,6 +288,7 @@ pub record HearsOne (n n' : NodeState) (bytes : List ℕ) (s : NodeStep) (deeds 
   pub opens : OpensTo (kept n b).casts (arriving_outcome n.casting first (second % 2 ^ 32) packet by) given (kept n' b).casts
   pub delivered : filter (is_cast_from b) s.inside ≡ given_entries Broadcast b (pair_with n b) given
 
+-- nothing was heard of the broadcast of node b, or one packet of it
 pub data HearsCasts (n n' : NodeState) (bytes : List ℕ) (s : NodeStep) (deeds : List CastDeed) (b : ℕ) (changes : List Transition) : Type 0 where
   hears_none : HearsNone n n' s deeds b changes → HearsCasts n n' bytes s deeds b changes
   hears_one : HearsOne n n' bytes s deeds b → HearsCasts n n' bytes s deeds b changes

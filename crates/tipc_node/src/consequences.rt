@@ -170,8 +170,8 @@ impl Draft {
         ensures there { OnOk result (is_some (slice_index_or self.new.work.neighbours due.now.peer None) ≡ true) }
         ensures contact { IfOk result (λ given.
             HasContact given.changes (slice_index_or self.new.work.neighbours due.now.peer None)) }
-        ensures told { IfOk result (λ given. CanBeTold (is_met (slice_index_or self.old.work.neighbours due.now.peer None))
-            given.changes given.stated) }
+        ensures told { IfOk result (λ given. CanBeTold (is_met
+            (slice_index_or self.old.work.neighbours due.now.peer None)) given.changes given.stated) }
         ensures changes { IfOk result (λ given. given.changes ≡ told_changes heard) }
         ensures stated { IfOk result (λ given. given.stated ≡ heard.stated) }
         ensures plain { IfOk result (λ given. list_all is_plain (entries_in given.deliveries.items) ≡ true) }

@@ -1,6 +1,6 @@
 //! The parts of a node, and the calls that it performs.
 
-ghost use Rattle.std.specs.Prelude.{◌≡◌, ℕ, ◌+◌, ◌%◌, ◌^◌, ◌<◌, ◌≤◌, List, [], true, false, if◌then◌else◌, None, Some, Err, length, slice_index_or, IfOk, IfSome, IfNone, IsOk, OnErr, OnOk};
+ghost use Rattle.std.specs.Prelude.{◌≡◌, ℕ, ◌+◌, ◌%◌, ◌^◌, ◌<◌, ◌≤◌, List, [], true, false, if◌then◌else◌, None, Some, Err, length, IfOk, IfSome, IfNone, IsOk, OnErr, OnOk};
 ghost use Rattle.tipc_types.specs.Address.{IsNodeWord};
 ghost use Rattle.tipc_outside.specs.Frames.{Adds};
 ghost use Rattle.tipc_outside.specs.declared.outgoing.Outgoing.{Outgoing};

@@ -452,7 +452,8 @@ pub fn part_of_all(
     requires joined { AreAllJoined neighbours.now broadcast.now }
     requires empty { event.old.inside.items ≡ [] }
     requires same { event.old.broadcast ≡ None }
-    ensures parts { IfOk result (λ after. TookParts upkeep broadcast.now neighbours.now after.items event.old event.new) }
+    ensures parts { IfOk result (λ after. TookParts upkeep broadcast.now neighbours.now after.items event.old
+        event.new) }
 {
     let mut after = Vec::new(alloc);
     after.push(None)?;

@@ -233,8 +233,10 @@ impl Node {
         self.core.into_journal()
     }
 
-    /// Performs a call, and answers it: a socket is made or closed, names are published there and withdrawn, a message is sent to a port
-    /// or by name, or taken from an inbox; a bearer is mended or cut; a tick passes. The call is one step of the journal. The chooser says
+    /// Performs a call, and answers it: a socket is made or closed, names are published there and withdrawn, a message is
+    /// sent to a port, by name or to every port with a publication that overlaps a range, or taken from an inbox; a
+    /// subscription is made or cancelled, or its next event is taken; a bearer is mended or cut; a tick passes. The call is
+    /// one step of the journal. The chooser says
     /// to which of those that a name finds a message goes, and turns where one was sent so.
     ///
     /// # Errors
@@ -272,8 +274,9 @@ impl Node {
     }
 
     /// A frame arrives on a bearer; `number` is its number among all that arrived at this node. A packet that it
-    /// brings is taken by the link of the node that it names as its sender; a message that is given is recorded as
-    /// delivered and has its fate: it waits at its port, or goes back, or is dropped. A STATE that is due is sent last. A
+    /// brings is taken by the link of the node that it names as its sender, or by the broadcast link where it is one of
+    /// broadcast; a message that is given is recorded as delivered and has its fate: it waits at its port, or goes back,
+    /// or is dropped. A STATE that is due is sent last. A
     /// request of discovery is answered by a response to its sender; a sender that is new on the bearer gets its link
     /// end, whose RESET is sent. A frame that is stopped is ignored for the first reason that holds. The arrival is one
     /// step of the journal.

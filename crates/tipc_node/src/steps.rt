@@ -110,7 +110,8 @@ pub fn record_entry(journal: &mut Journal, by: By, event: EventNote, inside: Ent
     requires room { has_journal_room journal.old.entries ≡ true }
     requires spare { 3 ≤ journal.old.spare }
     requires bytes { entry_bytes inside ≤ free_message_bytes }
-    ensures journal { journal.new.entries ≡ journal.old.entries ++ step_entries (step_of by event (inside ∷ []) answer) }
+    ensures journal { journal.new.entries ≡ journal.old.entries ++ step_entries
+        (step_of by event (inside ∷ []) answer) }
     ensures kept { journal.new.kept ≡ journal.old.kept - 1 }
 {
     journal.commit(Entry::Step { by, event });
@@ -158,7 +159,8 @@ pub fn record_one(journal: &mut Journal, by: By, event: EventNote, inside: Entry
     requires room { has_journal_room journal.old.entries ≡ true }
     requires ready { IsReady journal.old }
     requires bytes { entry_bytes inside ≡ 0 }
-    ensures journal { journal.new.entries ≡ journal.old.entries ++ step_entries (step_of by event (inside ∷ []) answer) }
+    ensures journal { journal.new.entries ≡ journal.old.entries ++ step_entries
+        (step_of by event (inside ∷ []) answer) }
     ensures kept { journal.new.kept ≡ journal.old.kept - 1 }
 {
     journal.release();

@@ -153,6 +153,7 @@ impl<P: Pick> LockedNode<P> {
 
     /// Moves messages place by place, in the order in which the sockets were made, until all are moved for which the inboxes have a place, or
     /// the journal has no room, the seat is spent, or memory runs out, which is marked in the pass.
+    /// It looks at each place in turn, also where nothing waits, so a call costs time for each socket of the node.
     pub(crate) fn move_all<R: Wait>(
         &mut self,
         rt: &R,

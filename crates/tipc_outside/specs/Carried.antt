@@ -19,39 +19,15 @@ pub record Carrying : Type 0 where
 
 -- a bearer after one more call, which counts a fault where it is one of those that fail
 abbrev pub called : Carrying → Carrying
-called b = record {
-  node = b.node;
-  bearer = b.bearer;
-  calls = counted b.calls;
-  failing = b.failing;
-  faults = if is_failing b.failing b.calls then counted b.faults else b.faults;
-  tried = b.tried;
-  given = b.given;
-}
+called b = record b { calls = counted b.calls; faults = if is_failing b.failing b.calls then counted b.faults else b.faults }
 
 -- a bearer that was asked to send one more frame
 abbrev pub asked : Carrying → Carrying
-asked b = record {
-  node = b.node;
-  bearer = b.bearer;
-  calls = b.calls;
-  failing = b.failing;
-  faults = b.faults;
-  tried = counted b.tried;
-  given = b.given;
-}
+asked b = record b { tried = counted b.tried }
 
 -- a bearer that gave one more frame
 abbrev pub gave : Carrying → Carrying
-gave b = record {
-  node = b.node;
-  bearer = b.bearer;
-  calls = b.calls;
-  failing = b.failing;
-  faults = b.faults;
-  tried = b.tried;
-  given = counted b.given;
-}
+gave b = record b { given = counted b.given }
 
 -- the frames that wait for the node of this number
 abbrev pub waiting_for : ℕ → List (List (List ℕ)) → List (List ℕ)

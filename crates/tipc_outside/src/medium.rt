@@ -111,7 +111,8 @@ impl Queues {
     /// Puts the first frame that waits for a node into `into`, in place of what stands there, and takes it away.
     fn receive(&mut self, alloc: Global, node: u8, into: &mut Vec<u8>) -> Result<Heard, NoMemory>
         requires node { (1 ≤ node) × (node ≤ 32) }
-        ensures frame { result ≡ Ok Heard.Frame → waiting_for node self.old ≡ into.new.items ∷ waiting_for node self.new }
+        ensures frame { result ≡ Ok Heard.Frame
+            → waiting_for node self.old ≡ into.new.items ∷ waiting_for node self.new }
         ensures nothing { result ≡ Ok Heard.Nothing → waiting_for node self.old ≡ [] }
         ensures others { (other : ℕ) → 1 ≤ other → (other ≡ node → ⊥) →
             waiting_for other self.new ≡ waiting_for other self.old }

@@ -85,7 +85,8 @@ impl<'m, R: Wait + Drop> MemoryBearer<'m, R> {
     fn begin_call(&mut self) -> Result<(), BearerFault>
         ensures later { self.old.faults ≤ self.new.faults }
         ensures after { self.new ≡ called self.old }
-        ensures fails { result ≡ (if is_failing self.old.failing self.old.calls then Err BearerFault.Failed else Ok tt) }
+        ensures fails { result ≡ (if is_failing self.old.failing self.old.calls then Err BearerFault.Failed
+            else Ok tt) }
     {
         self.calls = self.calls.saturating_add(1);
         if self.failing.contains(&self.calls) {

@@ -135,7 +135,8 @@ impl<R: time::Clock + Drop> StdClock<R> {
 
     /// Goes on to the time of a reading of the system's clock; the first one is where its time starts.
     fn advance(&mut self, reading: Duration)
-        ensures start { MatchOption self.old.start (self.new.start ≡ Some reading) (λ start. self.new.start ≡ Some start) }
+        ensures start { MatchOption self.old.start (self.new.start ≡ Some reading)
+            (λ start. self.new.start ≡ Some start) }
         ensures last { IfSome self.new.start (λ start.
             self.new.last ≡ max self.old.last (min ((as_nanos reading - as_nanos start) / 10_000_000) (2 ^ 64 - 1))) }
     {

@@ -1,4 +1,4 @@
-//! Tests of the codec, against packets spelled by hand from the TIPC 2.0 draft.
+//! Tests of the codec, against packets spelled by hand as docs/FORMATS.md lays them out.
 
 use std::alloc::{AllocError, Global};
 use std::process::Abort;
@@ -67,12 +67,17 @@ fn payload(importance: u8, addressing: Addressing) -> Header {
 }
 
 #[test]
-fn payload_is_spelled(rt: HostRuntime) -> Result<(), Fail> {
+fn a_connected_message_is_spelled(rt: HostRuntime) -> Result<(), Fail> {
     let alloc = rt.alloc();
     let header = payload(3, Addressing::Connected);
     let words = [0x46c4_001a, 0x0b30_1234, 0x0102_0304, 0x0100_1001, 7, 8];
     spells(&rt, alloc, &words, b"ab", (0x0102, 0x0304), &header)?;
+    Ok(())
+}
 
+#[test]
+fn a_multicast_is_spelled(rt: HostRuntime) -> Result<(), Fail> {
+    let alloc = rt.alloc();
     let header = payload(
         2,
         Addressing::Multicast {
@@ -97,7 +102,12 @@ fn payload_is_spelled(rt: HostRuntime) -> Result<(), Fail> {
         9,
     ];
     spells(&rt, alloc, &words, b"", (0, 0), &header)?;
+    Ok(())
+}
 
+#[test]
+fn a_message_by_name_is_spelled(rt: HostRuntime) -> Result<(), Fail> {
+    let alloc = rt.alloc();
     let header = payload(
         1,
         Addressing::Named {
@@ -124,7 +134,7 @@ fn payload_is_spelled(rt: HostRuntime) -> Result<(), Fail> {
 }
 
 #[test]
-fn link_protocol_is_spelled(rt: HostRuntime) -> Result<(), Fail> {
+fn a_link_state_is_spelled(rt: HostRuntime) -> Result<(), Fail> {
     let alloc = rt.alloc();
     let header = Header::State(State {
         gap: 0x1fff,
@@ -151,14 +161,19 @@ fn link_protocol_is_spelled(rt: HostRuntime) -> Result<(), Fail> {
         0,
     ];
     spells(&rt, alloc, &words, b"", (0xfffe, 0), &header)?;
+    Ok(())
+}
 
+#[test]
+fn reset_and_activate_are_spelled(rt: HostRuntime) -> Result<(), Fail> {
+    let alloc = rt.alloc();
     let reset = Reset {
         destination_node: 0x0100_1002,
         priority: 31,
         contact: 0x1_0000_0002,
         peer_contact: 0x0304_0506_0708_090a,
     };
-    let words = [
+    let mut words = [
         0x4f50_0038,
         0x2000_0000,
         0,
@@ -175,28 +190,13 @@ fn link_protocol_is_spelled(rt: HostRuntime) -> Result<(), Fail> {
         0x0708_090a,
     ];
     spells(&rt, alloc, &words, b"", (0, 0), &Header::Reset(reset))?;
-    let words = [
-        0x4f50_0038,
-        0x4000_0000,
-        0,
-        0x0100_1001,
-        0,
-        0,
-        0,
-        0x0100_1002,
-        0x7c,
-        0,
-        1,
-        2,
-        0x0304_0506,
-        0x0708_090a,
-    ];
+    words[1] = 0x4000_0000;
     spells(&rt, alloc, &words, b"", (0, 0), &Header::Activate(reset))?;
     Ok(())
 }
 
 #[test]
-fn others_are_spelled(rt: HostRuntime) -> Result<(), Fail> {
+fn a_bundle_is_spelled(rt: HostRuntime) -> Result<(), Fail> {
     let alloc = rt.alloc();
     let header = Header::Bundler(Bundle {
         broadcast_acknowledgement: 0xbeef,
@@ -215,7 +215,12 @@ fn others_are_spelled(rt: HostRuntime) -> Result<(), Fail> {
         0,
     ];
     spells(&rt, alloc, &words, b"12345678", (5, 6), &header)?;
+    Ok(())
+}
 
+#[test]
+fn a_tunnel_packet_is_spelled(rt: HostRuntime) -> Result<(), Fail> {
+    let alloc = rt.alloc();
     let header = Header::Changeover(Changeover {
         changeover_type: ChangeoverType::Original,
         broadcast_acknowledgement: 0,
@@ -239,7 +244,12 @@ fn others_are_spelled(rt: HostRuntime) -> Result<(), Fail> {
         2,
     ];
     spells(&rt, alloc, &words, b"in", (5, 6), &header)?;
+    Ok(())
+}
 
+#[test]
+fn a_withdrawn_name_is_spelled(rt: HostRuntime) -> Result<(), Fail> {
+    let alloc = rt.alloc();
     let header = Header::NameDistributor(NameDistribution {
         distribution_type: DistributionType::Withdrawal,
         broadcast_acknowledgement: 0,
@@ -249,7 +259,12 @@ fn others_are_spelled(rt: HostRuntime) -> Result<(), Fail> {
         0, 0, 3, 0xe8, 0, 0, 0, 1, 0, 0, 0, 9, 0, 0, 0, 7, 0, 0, 0, 6,
     ];
     spells(&rt, alloc, &words, &item, (0, 0), &header)?;
+    Ok(())
+}
 
+#[test]
+fn a_fragment_is_spelled(rt: HostRuntime) -> Result<(), Fail> {
+    let alloc = rt.alloc();
     let header = Header::Fragmenter(Fragment {
         fragment_type: FragmentType::Last,
         broadcast_acknowledgement: 0,
@@ -257,7 +272,12 @@ fn others_are_spelled(rt: HostRuntime) -> Result<(), Fail> {
     });
     let words = [0x5940_0029, 0x4000_0000, 0, 0x0100_1001, 47, 0, 0, 0, 0, 0];
     spells(&rt, alloc, &words, b"p", (0, 0), &header)?;
+    Ok(())
+}
 
+#[test]
+fn a_discovery_response_is_spelled(rt: HostRuntime) -> Result<(), Fail> {
+    let alloc = rt.alloc();
     let header = Header::Discovery(Discovery {
         discovery_type: DiscoveryType::Response,
         network: 4711,

@@ -19,6 +19,44 @@ const MESSAGE: [u32; 8] = [
     0x0100_1002,
 ];
 
+/// A message by name, as number 515 of its link: `hi` from port 9 of node 1.1.5 to port 4 of node 1.1.7, looked up in the
+/// cluster; type 1,000, instance 3. Version 2, user 2, 10 words of header, 42 bytes in all.
+const NAMED: [u32; 10] = [
+    0x4540_002a,
+    0x4010_0000,
+    0x0000_0203,
+    0x0100_1005,
+    9,
+    4,
+    0x0100_1005,
+    0x0100_1007,
+    1_000,
+    3,
+];
+
+/// What stands before that message in its duplicate: version 2, user 10, 10 words of header, 90 bytes in all; duplicate; a run of 6,
+/// number 515; bearer 1; the epoch.
+const DUPLICATE: [u32; 12] = [
+    0x5540_005a,
+    0,
+    0,
+    0,
+    0x0006_0203,
+    1,
+    0,
+    0,
+    0,
+    0,
+    2,
+    0xffff_ffff,
+];
+
+/// The session of that duplicate.
+const LATER: OldSession = OldSession {
+    bearer: 1,
+    epoch: 0x2_ffff_ffff,
+};
+
 /// The first session of a node's first boot, on bearer 0.
 const OLD: OldSession = OldSession {
     bearer: 0,
@@ -109,63 +147,24 @@ fn a_message_is_wrapped_and_unwrapped(rt: HostRuntime) -> Result<(), Fail> {
 #[test]
 fn a_message_by_name_is_in_a_duplicate(rt: HostRuntime) -> Result<(), Fail> {
     let alloc = rt.alloc();
-    // version 2, user 2, 10 words of header, 42 bytes in all; named, looked up in the cluster; number 515; node 1.1.5;
-    // port 9 of that node to port 4 of node 1.1.7; type 1,000, instance 3
-    let mut inner = [
-        0x4540_002a,
-        0x4010_0000,
-        0x0000_0203,
-        0x0100_1005,
-        9,
-        4,
-        0x0100_1005,
-        0x0100_1007,
-        1_000,
-        3,
-    ];
-    let numbered = bytes_of(alloc, &inner, b"hi")?;
-    inner[2] = 0;
-    let message = bytes_of(alloc, &inner, b"hi")?;
-    // version 2, user 10, 10 words of header, 90 bytes in all; duplicate; a run of 6, number 515; bearer 1; the epoch
-    let words = [
-        0x5540_005a,
-        0,
-        0,
-        0,
-        0x0006_0203,
-        1,
-        0,
-        0,
-        0,
-        0,
-        2,
-        0xffff_ffff,
-    ];
-    let expected = bytes_of(alloc, &words, numbered.as_slice())?;
+    let numbered = bytes_of(alloc, &NAMED, b"hi")?;
+    let mut unnumbered = NAMED;
+    unnumbered[2] = 0;
+    let message = bytes_of(alloc, &unnumbered, b"hi")?;
     if message.len() > 1_452 || !may_be_tunnelled(message.as_slice()) {
         panic!(rt; "this may not be wrapped");
     }
-    let old = OldSession {
-        bearer: 1,
-        epoch: 0x2_ffff_ffff,
-    };
-    let tunnel = wrap(
-        alloc,
-        TunnelKind::Duplicate,
-        old,
-        6,
-        515,
-        message.as_slice(),
-    )?;
-    assert_eq!(rt; tunnel, expected);
+    let inner = message.as_slice();
+    let tunnel = wrap(alloc, TunnelKind::Duplicate, LATER, 6, 515, inner)?;
+    assert_eq!(rt; tunnel, bytes_of(alloc, &DUPLICATE, numbered.as_slice())?);
     let carried = Tunnel {
         kind: TunnelKind::Duplicate,
-        old,
+        old: LATER,
         count: 6,
         number: 515,
         inner: numbered.as_slice(),
     };
-    assert_eq!(rt; unwrapped(&rt, expected.as_slice()), Ok(carried));
+    assert_eq!(rt; unwrapped(&rt, tunnel.as_slice()), Ok(carried));
     Ok(())
 }
 

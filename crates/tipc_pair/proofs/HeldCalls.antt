@@ -10,7 +10,8 @@ use Rattle.tipc_outside.specs.declared.outgoing.Outgoing.{Outgoing}
 use Rattle.tipc_bundle.specs.Bundles.{joined}
 use Rattle.tipc_link.specs.Links.{LinkEnd, answered_with, mended_end, tunnels_of, with_session}
 use Rattle.tipc_link.specs.Records.{is_tunnel}
-use Rattle.tipc_link.specs.Sessions.{IsPut, SessionEnd, answered, flushed, joins, last_of, room, waits, with_broadcast}
+use Rattle.tipc_link.specs.Sessions.{IsPut, SessionEnd, answered, flushed, joins, last_of, waits, with_broadcast}
+use Rattle.tipc_send_window.specs.Sending.{room}
 use Rattle.tipc_link_fsm.specs.Table.{Fsm, is_held}
 use Rattle.tipc_pair.specs.Courses.{Course}
 use Rattle.tipc_pair.specs.Facing.{PairEnds, facing, turned, with_made, with_near}

@@ -9,9 +9,9 @@ use Rattle.tipc_tunnel.specs.Tunnels.{IsTunnellable, may_stand_in_tunnel, tunnel
 use Rattle.tipc_tunnel.proofs.TunnelLaws.{tunnel_fits}
 use Rattle.tipc_bundle.specs.Bundles.{Carries as Waits, IsInner as IsBundled, bundle_of, joined, may_stand_inside as may_be_bundled}
 use Rattle.tipc_bundle.proofs.Bundling.{one_or_several}
-use Rattle.tipc_send_window.specs.Sending.{release_count}
+use Rattle.tipc_send_window.specs.Sending.{release_count, room}
 use Rattle.tipc_link.specs.Records.{Received}
-use Rattle.tipc_link.specs.Sessions.{SessionEnd, Content, Carries, Nothing, Shows, IsPut, IsWaiting, MayJoin, arrived, begun_with, flushed, given_up, heard, joins, noted, put, after_acknowledgement, repeated, room, spoke, after_state, waiting_given, waits, with_record, tunnel as over_tunnel}
+use Rattle.tipc_link.specs.Sessions.{SessionEnd, Content, Carries, Nothing, Shows, IsPut, IsWaiting, MayJoin, arrived, begun_with, flushed, given_up, heard, joins, noted, put, after_acknowledgement, repeated, spoke, after_state, waiting_given, waits, with_record, tunnel as over_tunnel}
 use Rattle.tipc_link.proofs.JoinLaws.{carried_waits, other_waits}
 use Rattle.tipc_pair.specs.PairFacts.{IsSessionOn}
 use Rattle.tipc_pair.specs.Runs.{IsListed, plain, tunnel}

@@ -174,18 +174,19 @@ impl LinkEnds {
     fn hear_reset(
         &mut self,
         alloc: Global,
-        es: u64,
+        sender_epoch: u64,
         number: u64,
         shown: BroadcastState,
         event: &mut Leaving,
     ) -> Result<LinkOutcome, NoMemory>
         ensures { IfOk result
-            (λ outcome. IsHeardAs (reset_shown number es shown self.old) self.new event.old event.new outcome) }
+            (λ outcome. IsHeardAs (reset_shown number sender_epoch shown self.old) self.new event.old event.new
+            outcome) }
     {
         match self.standing(number) {
             Standing::Lower => Ok(LinkOutcome::Ignored(Why::Contact)),
-            Standing::Same => self.take_reset(alloc, es, shown, event),
-            Standing::Higher => self.rise_and_reset(alloc, es, number, shown, event),
+            Standing::Same => self.take_reset(alloc, sender_epoch, shown, event),
+            Standing::Higher => self.rise_and_reset(alloc, sender_epoch, number, shown, event),
         }
     }
 
@@ -193,16 +194,17 @@ impl LinkEnds {
     fn rise_and_reset(
         &mut self,
         alloc: Global,
-        es: u64,
+        sender_epoch: u64,
         number: u64,
         shown: BroadcastState,
         event: &mut Leaving,
     ) -> Result<LinkOutcome, NoMemory>
         ensures { IfOk result (λ outcome.
-            IsHeardAs (behind (risen self.old number) (reset_near es shown)) self.new event.old event.new outcome) }
+            IsHeardAs (behind (risen self.old number) (reset_near sender_epoch shown)) self.new event.old event.new
+            outcome) }
     {
         self.rise(alloc, number, event)?;
-        self.take_reset(alloc, es, shown, event)
+        self.take_reset(alloc, sender_epoch, shown, event)
     }
 
     /// A RESET under this epoch, which shows the highest contact number. Where it took the last link down the contact ended, and
@@ -210,16 +212,17 @@ impl LinkEnds {
     fn take_reset(
         &mut self,
         alloc: Global,
-        es: u64,
+        sender_epoch: u64,
         shown: BroadcastState,
         event: &mut Leaving,
     ) -> Result<LinkOutcome, NoMemory>
-        ensures { IfOk result (λ outcome. IsHeardAs (reset_near es shown self.old) self.new event.old event.new outcome) }
+        ensures { IfOk result (λ outcome. IsHeardAs (reset_near sender_epoch shown self.old) self.new event.old
+            event.new outcome) }
     {
         let held = self.far_is_up();
-        let (change, outcome) = self.give_reset(alloc, es, held, shown, event)?;
+        let (change, outcome) = self.give_reset(alloc, sender_epoch, held, shown, event)?;
         if is_down(change) && !held {
-            return Ok(self.give_reset(alloc, es, false, shown, event)?.1);
+            return Ok(self.give_reset(alloc, sender_epoch, false, shown, event)?.1);
         }
         Ok(outcome)
     }
@@ -229,20 +232,21 @@ impl LinkEnds {
     fn give_reset(
         &mut self,
         alloc: Global,
-        es: u64,
+        sender_epoch: u64,
         held: bool,
         shown: BroadcastState,
         event: &mut Leaving,
     ) -> Result<(Change, LinkOutcome), NoMemory>
-        ensures change { IfOk result (λ given. given.0 ≡ reset_change es held self.old.near) }
+        ensures change { IfOk result (λ given. given.0 ≡ reset_change sender_epoch held self.old.near) }
         ensures does { IfOk result (λ given.
-            IsHeardAs (reset_given es held shown self.old self.old.near) self.new event.old event.new given.1) }
+            IsHeardAs (reset_given sender_epoch held shown self.old self.old.near) self.new event.old event.new
+            given.1) }
     {
         let Some(link) = &mut self.near else {
             return Ok((Change::Stay, LinkOutcome::Ignored(Why::Unknown)));
         };
-        let arrival = link.reset(alloc, es, held, shown, &mut event.out);
-        self.follow(alloc, arrival.change, es, event)?;
+        let arrival = link.reset(alloc, sender_epoch, held, shown, &mut event.out);
+        self.follow(alloc, arrival.change, sender_epoch, event)?;
         Ok((arrival.change, arrival.outcome))
     }
 

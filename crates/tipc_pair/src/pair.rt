@@ -250,7 +250,7 @@ impl Pair {
     ///
     /// # Errors
     ///
-    /// Where memory runs out. Nothing is changed then.
+    /// Where memory runs out. Nothing is changed then. A packet of an ended contact, which is passed over, takes none.
     pub fn arrive(
         &mut self,
         alloc: Global,
@@ -268,6 +268,7 @@ impl Pair {
         ensures goes_on { in_contact self.old ≡ true → OnOk result (in_contact self.new ≡ true →
             self.new.seen ≡ self.old.seen →
             self.new.contact ≡ self.old.contact) }
+        ensures passing { OnErr result (standing_with self.old incoming.now.packet.header ≡ standing.Lower → ⊥) }
         ensures err { OnErr result ((self.new ≡ self.old) × (out.new ≡ out.old)) }
     {
         let (way, outcome) = self.ends.prepare(alloc, bearer, incoming)?;

@@ -6,7 +6,7 @@ use Rattle.tipc_types.specs.declared.link_words.BroadcastState.{BroadcastState}
 use Rattle.tipc_types.specs.declared.link_words.Cause.{Cause}
 use Rattle.tipc_types.specs.declared.packet_lists.Kept.{Kept}
 use Rattle.tipc_types.specs.declared.packet_lists.Taken.{Taken}
-use Rattle.tipc_types.specs.Limits.{most_age}
+use Rattle.tipc_types.specs.Limits.{most_age, window_size}
 use Rattle.tipc_outside.specs.declared.outgoing.Outgoing.{Outgoing}
 use Rattle.tipc_header.specs.declared.packet.Header.TheVariants as header
 use Rattle.tipc_header.specs.Frames.{frame_of}
@@ -105,7 +105,7 @@ pub record Hears (x y : View) (bearer : ℕ) (s : SessionEnd) (p : Fields) : Typ
   pub bytes : frame.bytes ≡ frame_of s.peer_epoch s.epoch (spelling p)
   pub traffic : is_traffic p.header ≡ true
   pub own_fresh : length ((x.wires bearer).line s.epoch) ≤ frame.peer_numbered + most_age
-  pub peer_fresh : length ((y.wires bearer).line s.peer_epoch) ≤ frame.numbered + 30050
+  pub peer_fresh : length ((y.wires bearer).line s.peer_epoch) ≤ frame.numbered + (most_age + window_size)
 
 -- ---- frames
 

@@ -1,10 +1,10 @@
 -- What an end does in a session takes nothing back.
 use Rattle.std.proofs.Common.{ℕ, ◌≤◌, Bool, true, false, if◌then◌else◌, List, [], ◌∷◌, take, length-append, length-drop, arith}
 use Rattle.std.proofs.lemmas.List.{length-take}
-use Rattle.tipc_send_window.specs.Sending.{Sending, acked_of}
+use Rattle.tipc_send_window.specs.Sending.{Sending, acked_of, advanced, room}
 use Rattle.tipc_send_window.specs.Sending as window
 use Rattle.tipc_link.specs.Records.{advanced_by, is_next}
-use Rattle.tipc_link.specs.Sessions.{SessionEnd, Carries, Nothing, Shows, advanced, flushed, highest, joins, noted, receiving_record, after_acknowledgement, room, spoke, waits, with_record}
+use Rattle.tipc_link.specs.Sessions.{SessionEnd, Carries, Nothing, Shows, flushed, highest, joins, noted, receiving_record, after_acknowledgement, spoke, waits, with_record}
 use Rattle.tipc_repair.specs.Laws.{AnswersGoOn, FlushesGoOn, GoesOn, HearingsGoOn, PutsGoOn, RecordsGoOn, TellingsGoOn}
 
 stays : (e : SessionEnd) → GoesOn e e

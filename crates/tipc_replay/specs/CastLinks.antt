@@ -19,14 +19,18 @@ abbrev pub AreWithOthers : List Contact → Type 0
 AreWithOthers [] = Unit {0}
 AreWithOthers (c ∷ contacts) = (contact_with c.peer.word contacts ≡ None) × AreWithOthers contacts
 
+-- the broadcast link is that of its node and of the node's boot, and knows which bearers are mended there
 abbrev pub IsOfItsNode : NodeState → Type 0
 IsOfItsNode n = IsOfNode n.own n.boot n.mended n.casting
 
+-- the broadcast link of a node is right: it is that of the node, keeps no packet while no peer is in contact, has with each
+-- peer one contact at most, and holds no more of a peer than the window has
 pub record HasRightCast (n : NodeState) : Type 0 where
   pub node : IsOfItsNode n
   pub alone : KeepsNoneAlone n.casting
   pub others : AreWithOthers n.casting.contacts
   pub small : AreSmall n.casting
 
+-- each node has a right broadcast link
 abbrev pub HaveRightCasts : List (Option MemberState) → Type 0
 HaveRightCasts members = OfEach HasRightCast members

@@ -54,12 +54,13 @@ listed told air = filter_map (told 0) air.first ++ filter_map (told 1) air.secon
 unfoldable pub casts_from : AirState → ℕ → List Aired
 casts_from air a = listed (cast_in a) air
 
--- a STATE from node m to node a, of which a is the caster, and one from node a to node m
+-- a STATE from node m to node a, of which a is the caster
 abbrev pub state_told : ℕ → ℕ → Sent → Option Told
 state_told m a f =
     if (f.from.word == node_word m) && is_to a f.to
     then option_map (λ seen. record { contact = heard_contact f.contact; stamp = f.peer_casts; seen = seen }) (state_in f.frame) else None
 
+-- a STATE from node a, the caster, to node m
 abbrev pub state_heard : ℕ → ℕ → Sent → Option Told
 state_heard a m f =
     if (f.from.word == node_word a) && is_to m f.to

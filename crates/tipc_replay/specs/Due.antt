@@ -53,6 +53,8 @@ abbrev pub aging_by_header : ℕ → ℕ → Header → Aging
 aging_by_header sender receiver h =
     if is_traffic h then (if is_state h then aging.State sender receiver else aging.Numbered sender receiver) else aging.Never
 
+-- the same by a frame's kind: one of discovery is never too old, and one of broadcast is counted in the boot that its
+-- envelope names first
 abbrev pub aging_by_kind : List ℕ → FrameKind → Header → Aging
 aging_by_kind bytes Finds h = aging.Never
 aging_by_kind bytes Casts h = aging.Cast (first_of bytes)
@@ -63,6 +65,7 @@ abbrev pub aging_by_fault : List ℕ → Option HeaderFault → Aging
 aging_by_fault bytes (Some fault) = aging.Never
 aging_by_fault bytes None = aging_by_kind bytes (kind_in bytes) (fields_at (drop 16 bytes)).header
 
+-- the same by a frame's bytes: what doesn't have the size of a frame is never too old
 unfoldable pub aging_of : List ℕ → Aging
 aging_of bytes = if is_frame_size (length bytes) then aging_by_fault bytes (fault_of (drop 16 bytes)) else aging.Never
 

@@ -1,5 +1,6 @@
 -- What stands in the lists of every link isn't of link protocol, so that no numbered packet is read as a STATE.
 use Rattle.std.specs.Prelude.{◌≡◌, ◌≤◌, ℕ, All, List, Option, Some, None, IfSome, length, slice_index_or}
+use Rattle.tipc_types.specs.Limits.{most_tunnel_bytes}
 use Rattle.tipc_header.specs.Reading.{user_at}
 use Rattle.tipc_link.specs.Sessions.{SessionEnd}
 use Rattle.tipc_pair.specs.Facing.{PairEnds}
@@ -9,7 +10,7 @@ use Rattle.tipc_replay.specs.States.{MemberState}
 -- such a packet: one that isn't too long for a frame is of another user
 pub record IsPlain (packet : List ℕ) : Type 0 where
   pub long : 16 ≤ length packet
-  pub other : length packet ≤ 1500 → user_at packet ≡ 7 → ⊥
+  pub other : length packet ≤ most_tunnel_bytes → user_at packet ≡ 7 → ⊥
 
 -- the lists of a session
 pub record ArePlain (s : SessionEnd) : Type 0 where

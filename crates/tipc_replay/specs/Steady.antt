@@ -14,6 +14,7 @@ use Rattle.tipc_replay.specs.Sound.{IsSound}
 use Rattle.tipc_replay.specs.States.{MemberState}
 use Rattle.tipc_replay.specs.Watched.{AreWatched}
 
+-- nodes and the air between them keep all of this
 pub record IsSteady (members : List (Option MemberState)) (air : AirState) : Type 0 where
   pub sound : IsSound members air
   pub watched : AreWatched members air

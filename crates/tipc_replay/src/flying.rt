@@ -355,7 +355,8 @@ fn frame_for(air: &Air, node: u8, bearer: u8, place: u64) -> Option<&Sent>
 }
 
 /// The frame of that place in a bearer's air that arrives at a node, or the answer where none does: NoFrame exactly where there is
-/// none for that node, TooOld exactly where more than 30,000 packets were numbered in its session since it was sent.
+/// none for that node, TooOld exactly where its age is more than 30,000 (`age_of`): the largest count of numbers, of those that the frame
+/// speaks of, that were used since it was sent.
 #[tactic(auto, unfolding(crate::specs::Due::unarrived))]
 pub fn find<'a>(
     members: &[Option<Member>],

@@ -158,7 +158,8 @@ fn note_all(counts: &mut Counts, node: &Node)
 /// Notes how many numbers the broadcast link of a node used in its boot. There is room for one more number.
 fn note_casts(casts: &mut Casts, node: &Node)
     requires room { 0 < spare casts.old }
-    ensures { casts.new.entries ≡ insert_entry nat_eq casts.old.entries node.now.boot node.now.casting.sending.numbered }
+    ensures { casts.new.entries ≡ insert_entry nat_eq casts.old.entries node.now.boot
+        node.now.casting.sending.numbered }
 {
     match casts.insert(u64::from(node.boot()), node.broadcast_numbered()) {
         Ok(_) => {}
@@ -325,7 +326,8 @@ impl Member {
     /// JournalFull exactly where the journal has no room for a call.
     #[tactic(auto, using(crate::proofs::calls::Calls::call_fits))]
     fn begin(&self) -> Result<u64, NodeFault>
-        ensures ok { IfOk result (λ calls. (calls ≡ self.now.calls + 1) × (has_journal_room self.now.node.journal ≡ true)) }
+        ensures ok { IfOk result (λ calls. (calls ≡ self.now.calls + 1) ×
+            (has_journal_room self.now.node.journal ≡ true)) }
         ensures full { IfErr result (λ fault.
             (fault ≡ NodeFault.JournalFull) × (has_journal_room self.now.node.journal ≡ false)) }
     {

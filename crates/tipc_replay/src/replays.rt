@@ -221,7 +221,8 @@ fn arrive(
     ensures room { OnOk result (is_call_at members.old.items air.old (WorldEvent.Arrive node bearer place) ≡ true →
         has_room_at members.old.items node ≡ true) }
     ensures full { IfErr result (CallStops
-        (is_call_at members.old.items air.old (WorldEvent.Arrive node bearer place)) (has_room_at members.old.items node)) }
+        (is_call_at members.old.items air.old (WorldEvent.Arrive node bearer place))
+        (has_room_at members.old.items node)) }
     ensures err { OnErr result ((members.new.items ≡ members.old.items) × (air.new ≡ air.old)) }
 {
     let sent = match find(members, air, node, bearer, place) {

@@ -8,13 +8,19 @@ use crate::words::{at_port, event, numbered, numbered_twice, word};
 use std::alloc::Global;
 use tipc_types::{Answer, Arrival, Event, NoMemory, Why};
 
+/// What an event tells: a publication was added. (Programmer's guide.)
+const PUBLISHED: u32 = 1;
+
+/// What an event tells: a publication was removed. (Programmer's guide.)
+const WITHDRAWN: u32 = 2;
+
 /// What an event is called.
 fn what_word(what: u32) -> &'static str
     ensures { result.now ≡ what_word what }
 {
     match what {
-        1 => "published",
-        2 => "withdrawn",
+        PUBLISHED => "published",
+        WITHDRAWN => "withdrawn",
         _ => "timeout",
     }
 }

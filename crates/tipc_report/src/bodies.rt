@@ -5,7 +5,7 @@ ghost use Rattle.std.specs.Fmt.{decimal};
 ghost use Rattle.tipc_report.specs.Closing.{spaced};
 ghost use Rattle.tipc_report.specs.Answering.{is_shown, body_text, port_text, message_text};
 
-use crate::words::word;
+use crate::words::{number_in, word};
 use std::alloc::Global;
 use tipc_script::is_visible;
 use tipc_types::{Body, Message, NoMemory, PortId};
@@ -33,7 +33,7 @@ fn message_head(alloc: Global, from: PortId, code: u8, len: usize) -> Result<Vec
     ensures { IfOk result (λ text. text.items ≡ spaced (codes "got" ∷ port_text from.node.word from.port ∷
         decimal code ∷ decimal len ∷ [])) }
 {
-    let node = from.node.word % 4096;
+    let node = number_in(from.node.word);
     let port = from.port;
     Ok(format!(in alloc; "got {node}:{port} {code} {len}")?.into_bytes())
 }

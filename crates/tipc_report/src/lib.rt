@@ -16,3 +16,4 @@ pub use limits::Which;
 pub use live::{Verdict, print_counts, print_plan, print_verdict};
 pub use printing::{print, print_bad, print_limit, print_seed};
 pub use told::Told;
+pub use words::number_in;

@@ -12,7 +12,7 @@ pub enum Which {
     Lines,
     /// The events of the run.
     Events,
-    /// The frames in the air of a bearer.
+    /// The frames in the air of both bearers together.
     Frames,
     /// The entries of a journal.
     Journal,

@@ -3,7 +3,7 @@
 ghost use Rattle.std.specs.Prelude.{◌≡◌, ◌∷◌, ◌++◌, IfOk};
 ghost use Rattle.tipc_report.specs.Telling.{end_letter, peer_text, links_text};
 
-use crate::words::word;
+use crate::words::{number_in, word};
 use std::alloc::Global;
 use tipc_types::{LinkState, NoMemory, PeerLinks};
 
@@ -23,7 +23,7 @@ fn end_letter(end: Option<LinkState>) -> &'static str
 fn peer_text(alloc: Global, links: &PeerLinks) -> Result<Vec<u8>, NoMemory>
     ensures { IfOk result (λ text. text.items ≡ 32 ∷ peer_text links.now) }
 {
-    let node = links.peer.word % 4096;
+    let node = number_in(links.peer.word);
     let first = end_letter(links.first);
     let second = end_letter(links.second);
     Ok(format!(in alloc; " {node}:{first}{second}")?.into_bytes())

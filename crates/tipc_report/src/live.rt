@@ -25,7 +25,8 @@ pub enum Verdict {
         /// The stamp.
         stamp: u64,
     },
-    /// The journal doesn't have the call that a caller was answered.
+    /// A caller tells of a call otherwise than the journal of its node does; or this is the call behind all that it made, at which it
+    /// was told that the journal is full, and the journal has room.
     Told {
         /// The node's number.
         node: u8,
@@ -34,14 +35,14 @@ pub enum Verdict {
         /// The number of the call, from 0.
         call: u64,
     },
-    /// A frame arrived that nobody sent.
+    /// No frame with the bytes that arrived was sent to that node on that bearer before.
     NoFrame {
         /// The node's number.
         node: u8,
         /// The number of the arrival, from 0.
         number: u64,
     },
-    /// A frame arrived behind too many others.
+    /// The latest frame with the bytes that arrived was too old.
     TooOld {
         /// The node's number.
         node: u8,

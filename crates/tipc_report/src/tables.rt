@@ -3,7 +3,7 @@
 ghost use Rattle.std.specs.Prelude.{◌≡◌, ◌∷◌, ◌++◌, IfOk};
 ghost use Rattle.tipc_report.specs.Telling.{publication_text, table_text};
 
-use crate::words::word;
+use crate::words::{number_in, word};
 use std::alloc::Global;
 use tipc_types::{NoMemory, Publication};
 
@@ -12,7 +12,7 @@ fn publication_text(alloc: Global, p: &Publication) -> Result<Vec<u8>, NoMemory>
     ensures { IfOk result (λ text. text.items ≡ 32 ∷ publication_text p.now) }
 {
     let (kind, lower, upper) = (p.range.kind(), p.range.lower(), p.range.upper());
-    let node = p.at.node.word % 4096;
+    let node = number_in(p.at.node.word);
     let (port, key) = (p.at.port, p.key);
     Ok(format!(in alloc; " {kind},{lower},{upper},{node}:{port},{key}")?.into_bytes())
 }

@@ -10,7 +10,7 @@ ghost use Rattle.tipc_report.specs.Telling.{to_text, told_text};
 use crate::answers::answer_text;
 use crate::links::links_text;
 use crate::tables::table_text;
-use crate::words::{flow, numbered, numbered_twice, word};
+use crate::words::{flow, number_in, numbered, numbered_twice, word};
 use std::alloc::Global;
 use tipc_types::{Addr, Answer, Bytes, List, NoMemory, PeerLinks, Sequence, To};
 
@@ -90,10 +90,10 @@ fn times_text(alloc: Global, count: u64, last: &Answer) -> Result<Vec<u8>, NoMem
 fn nodes_text(alloc: Global, from: Addr, to: To) -> Result<Vec<u8>, NoMemory>
     ensures { IfOk result (λ text. text.items ≡ spaced (decimal (from.word % 4096) ∷ to_text to ∷ [])) }
 {
-    let sender = from.word % 4096;
+    let sender = number_in(from.word);
     let text = match to {
         To::Node(address) => {
-            let receiver = address.word % 4096;
+            let receiver = number_in(address.word);
             format!(in alloc; "{sender} {receiver}")?
         }
         To::All => format!(in alloc; "{sender} all")?,

@@ -8,6 +8,16 @@ ghost use Rattle.tipc_report.specs.Answering.{port_text};
 use std::alloc::Global;
 use tipc_types::{NoMemory, PortId};
 
+/// How many numbers the lowest 12 bits of an address have room for. (TIPC 2.0 draft.)
+const NUMBERS: u32 = 4_096;
+
+/// The node's number in an address.
+pub fn number_in(address: u32) -> u32
+    ensures { result ≡ address % 4096 }
+{
+    address % NUMBERS
+}
+
 /// A word alone.
 pub fn word(alloc: Global, word: &str) -> Result<Vec<u8>, NoMemory>
     ensures { IfOk result (λ text. text.items ≡ word.now) }
@@ -38,7 +48,7 @@ pub fn numbered_twice(
 pub fn at_port(alloc: Global, word: &str, port: PortId) -> Result<Vec<u8>, NoMemory>
     ensures { IfOk result (λ text. text.items ≡ spaced (word.now ∷ port_text port.node.word port.port ∷ [])) }
 {
-    let node = port.node.word % 4096;
+    let node = number_in(port.node.word);
     let port = port.port;
     Ok(format!(in alloc; "{word} {node}:{port}")?.into_bytes())
 }
@@ -55,7 +65,7 @@ pub fn event(
 {
     let (lower, upper) = bounds;
     let (address, port) = port;
-    let node = address % 4096;
+    let node = number_in(address);
     Ok(format!(in alloc; "{word} {lower} {upper} {node}:{port}")?.into_bytes())
 }
 

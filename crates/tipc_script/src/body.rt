@@ -47,7 +47,7 @@ fn count_in(token: &[u8]) -> Option<u32>
     number_in(digits, 0, LONGEST_PATTERN)
 }
 
-/// The first bytes of the pattern, so many.
+/// The first bytes of the pattern, so many: byte k, from 0, is k modulo 251. (This project's profile.)
 fn pattern(alloc: Global, count: u32) -> Result<Bytes, NoMemory>
     ensures { IfOk result (λ bytes. bytes ≡ pattern count) }
 {

@@ -1,4 +1,9 @@
 //! The lines of a script: their grammar, and the place and reason of a line that is not in it.
+//!
+//! - Lines: `lines` (what a line asks for), `parsing` (how it is read), `faults` (what is wrong with it, and where).
+//! - Tokens: `tokens` (those of a line, with the place of each), `numbers` (numbers), `body` (the body of a message).
+//! - Behind the first words: `forms` (of nodes, links and frames), `services` (of sockets and services), `subscriptions`
+//!   (of subscriptions), `sends` (of messages that are sent).
 #![tactic(auto)]
 
 mod body;

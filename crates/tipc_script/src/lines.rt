@@ -55,7 +55,7 @@ pub enum Filter {
 pub enum Line {
     /// Nothing: the line is empty or begins with `#`.
     Nothing,
-    /// A node is to be there.
+    /// A node is to be made.
     Node {
         /// The node.
         node: u8,

@@ -266,6 +266,11 @@ fn command_of(alloc: Global, line: &[u8]) -> Result<Command, LineFault>
 /// A line has at most 2,147,483,647 bytes. Bytes that are no text are bytes that no token takes. Whether
 /// the nodes of the line are there isn't looked at: `nodes` of the command says what is to be asked of
 /// them, and `LineWhy::Node` is never answered here.
+///
+/// # Errors
+///
+/// BadLine only where the line isn't in the grammar, with the place and the reason of its first fault. NoMemory where memory
+/// runs out, whether the line is in the grammar or not.
 pub fn parse_line(alloc: Global, line: &[u8]) -> Result<Command, LineFault>
     requires { length line.now < 2 ^ 31 }
     // What is read is a line of the grammar, with its values.

@@ -1,5 +1,5 @@
 -- The send window: packets that aren't acknowledged, and packets that wait for room.
-use Rattle.std.specs.Prelude.{◌≡◌, ℕ, ◌+◌, ◌-◌, ◌<◌, ◌≤◌, ◌^◌, List, [], ◌∷◌, ◌++◌, length, take, drop, map, nat_le, if◌then◌else◌}
+use Rattle.std.specs.Prelude.{◌≡◌, ℕ, ◌+◌, ◌-◌, ◌<◌, ◌≤◌, ◌^◌, List, [], ◌∷◌, ◌++◌, length, min, take, drop, map, nat_le, if◌then◌else◌}
 use Rattle.tipc_types.specs.Position.{distance_of, number_of}
 use Rattle.tipc_types.specs.declared.packet_lists.Kept.{Kept}
 use Rattle.tipc_types.specs.Limits.{window_size}
@@ -32,6 +32,14 @@ offered s pieces = record { numbered = s.numbered; unacked = s.unacked; waiting 
 -- the first packet that waits is numbered
 abbrev pub moved : Sending → Sending
 moved s = record { numbered = s.numbered + 1; unacked = s.unacked ++ take 1 s.waiting; waiting = drop 1 s.waiting }
+
+-- the first n waiting packets are numbered
+abbrev pub advanced : ℕ → Sending → Sending
+advanced n s = record { numbered = s.numbered + n; unacked = s.unacked ++ take n s.waiting; waiting = drop n s.waiting }
+
+-- how many of the waiting packets the window has room for
+abbrev pub room : Sending → ℕ
+room s = min (window_size - length s.unacked) (length s.waiting)
 
 -- the first n of the unacknowledged packets are acknowledged
 abbrev pub released : Sending → ℕ → Sending

@@ -21,10 +21,10 @@ use Rattle.tipc_link_fsm.specs.Table.{Fsm, Outcome, forget_peer, is_held, is_in_
 use Rattle.tipc_link_fsm.proofs.Moves.{Moves, cases_on, forget_peer_moves, is_going_up, on_cut_moves, on_peer_tunnel_moves, on_reset_moves, on_tick_moves, release_moves}
 use Rattle.tipc_link.specs.Links.{LinkEnd, after, cut_end, followed, handed_over, heard_end, is_down, is_heard, is_taken, is_traffic, mended_end, named_end, record_of, recorded, outcome_of, session_of, tunnelled_down, tunnelled_end, with_fsm, with_session, without_waiting}
 use Rattle.tipc_link.specs.Records.{Received, named, tunnelled}
-use Rattle.tipc_link.specs.Sessions.{Carries, Content, IsPut, Nothing, SessionEnd, Shows, after_acknowledgement, after_state, answered as said, arrived, content_of, flushed, heard, put as putting, repeated, room, spoke, waiting_given, with_broadcast, with_record}
+use Rattle.tipc_link.specs.Sessions.{Carries, Content, IsPut, Nothing, SessionEnd, Shows, after_acknowledgement, after_state, answered as said, arrived, content_of, flushed, heard, put as putting, repeated, spoke, waiting_given, with_broadcast, with_record}
+use Rattle.tipc_send_window.specs.Sending.{room, Sending, acked_of, acknowledged, release_count, released as let_out}
 use Rattle.tipc_link.specs.Sessions.IsPut.{joins, waits}
 use Rattle.tipc_link.proofs.Ends.{ended-is}
-use Rattle.tipc_send_window.specs.Sending.{Sending, acked_of, acknowledged, release_count, released as let_out}
 use Rattle.tipc_pair.specs.Changeovers.{contact_begins, contact_ends, fail_over, fail_over_to, failing, following, forgetting, forgotten, let_go, loaded, parted, parted_end, switch, switch_from, switching}
 use Rattle.tipc_pair.specs.Courses.{Course, going_on, rests as nothing}
 use Rattle.tipc_pair.specs.Facing.{PairEnds, facing, in_contact, is_up_at, other, with_near}

@@ -1,5 +1,5 @@
 -- An arrival that tells nothing of links and contact adds nothing to what is under way, by any count of send windows.
-use Rattle.std.specs.Prelude.{cond, count_by, slice_index_or, sum_by, ◌-◌, if◌then◌else◌, Bool, false}
+use Rattle.std.specs.Prelude.{cond, count_by, slice_index_or, sum_by, ◌-◌, if◌then◌else◌, false}
 use Rattle.std.proofs.Common.{◌≡◌, ◌≤◌, ◌<◌, ◌∙◌, ◌+◌, ℕ, suc, true, List, [], ◌∷◌, ◌++◌, Option, Some, None, length, refl, sym, ap, subst, arith, append_assoc, append-nil}
 use Rattle.std.proofs.lemmas.List.Sums.{sum_by-append, sum_by-cons}
 use Rattle.tipc_types.specs.declared.link_words.BroadcastState.{BroadcastState}
@@ -23,9 +23,9 @@ use Rattle.tipc_journal.specs.declared.entries.Entry.{Entry}
 use Rattle.tipc_journal.specs.declared.entries.Entry.TheVariants as entry
 use Rattle.tipc_journal.specs.Steps.{step_entries}
 use Rattle.tipc_recv_window.specs.declared.outcomes.LinkOutcome.{LinkOutcome}
-use Rattle.tipc_send_window.specs.Sending.{Sending, acked_of}
+use Rattle.tipc_send_window.specs.Sending.{Sending, acked_of, room}
 use Rattle.tipc_broadcast.specs.Contacts.{acked_by_all}
-use Rattle.tipc_broadcast.specs.Casting.{Casting, credited, flushed, informed, room, settled, shown, stating}
+use Rattle.tipc_broadcast.specs.Casting.{Casting, credited, flushed, informed, settled, shown, stating}
 use Rattle.tipc_broadcast.specs.Deeds.{after_deeds}
 use Rattle.tipc_link.specs.Links.{LinkEnd}
 use Rattle.tipc_link.specs.Sessions.{SessionEnd}

@@ -14,11 +14,11 @@ use Rattle.tipc_link_fsm.specs.Table.{Fsm, Outcome, forget_peer, release}
 use Rattle.tipc_link_fsm.proofs.Moves.{Moves, falls, forget_peer_moves, is_going_up, release_moves, rises, stays as still}
 use Rattle.tipc_types.specs.declared.packet_lists.Kept.{Kept}
 use Rattle.tipc_bundle.specs.Bundles.{joined}
-use Rattle.tipc_send_window.specs.Sending.{Sending, release_count, released}
+use Rattle.tipc_send_window.specs.Sending.{Sending, release_count, released, advanced, room}
 use Rattle.tipc_header.specs.Spelling.{Fields}
 use Rattle.tipc_tunnel.specs.Tunnels.{Tunnelled}
 use Rattle.tipc_link.specs.Links.{LinkEnd, after, answered_with, followed, heard_end, is_heard, mended_end, named_end, tunnelled_end, with_fsm, with_session}
-use Rattle.tipc_link.specs.Sessions.{Carries, Content, IsPut, Nothing, SessionEnd, Shows, advanced, after_acknowledgement, answered as answered_now, arrived, content_of, flushed, heard, joins, repeated, room, spoke, waits, with_broadcast}
+use Rattle.tipc_link.specs.Sessions.{Carries, Content, IsPut, Nothing, SessionEnd, Shows, after_acknowledgement, answered as answered_now, arrived, content_of, flushed, heard, joins, repeated, spoke, waits, with_broadcast}
 use Rattle.tipc_pair.specs.Changeovers.{contact_ends, following, forgetting, forgotten, let_go, risen}
 use Rattle.tipc_pair.specs.Courses.{Course, going_on, rests as nothing}
 use Rattle.tipc_pair.specs.Facing.{PairEnds, facing, in_contact, turned, with_near}

@@ -10,7 +10,7 @@ ghost use Rattle.tipc_settling.specs.Goings.{BringsKnown, HaveRecords, SessionsL
 /// and shown in it nothing is taken back: as long as an end is made only where there is none, and no tunnel packet names a higher epoch of its bearer
 /// than each record is under. The records stay under such epochs.
 pub fn sessions_go_on()
-    ensures { (known : ℕ → ℕ) (x x' : PairEnds) (opening : Opening) (messages : List (List ℕ)) (reply : Option Reply) (frames : List Outgoing)
-        → HaveRecords known x → MakesNew x opening → BringsKnown known x opening
+    ensures { (known : ℕ → ℕ) (x x' : PairEnds) (opening : Opening) (messages : List (List ℕ)) (reply : Option Reply)
+        (frames : List Outgoing) → HaveRecords known x → MakesNew x opening → BringsKnown known x opening
         → (t : PairTurn x opening messages reply x' frames) → t.first.course.changes ≡ [] → SessionsLast known x x' }
 {}

@@ -17,8 +17,8 @@ ghost use Rattle.tipc_settling.specs.Loads.{AddsNothing, IsCalm, PutsNothing};
 /// counts once, a message that was accepted and isn't delivered three times, and one that came back once. So a message that is delivered makes room
 /// for its return and for the packet of that. (This project's profile.)
 pub fn calm_events_add_nothing()
-    ensures arrives { (n n' : NodeState) (by : By) (bearer number : ℕ) (bytes : List ℕ) (frames : List Outgoing) (answered : Arrival)
-        → Arrives n n' by bearer number bytes frames answered
+    ensures arrives { (n n' : NodeState) (by : By) (bearer number : ℕ) (bytes : List ℕ) (frames : List Outgoing)
+        (answered : Arrival) → Arrives n n' by bearer number bytes frames answered
         → CallTurn n n' by (Arrive bearer number) bytes (Arrived answered) frames → IsCalm n n' → AddsNothing n n' }
     ensures ticks { (n n' : NodeState) (by : By) (frames : List Outgoing) (answered : Answer)
         → Performs n by Tick n' frames answered
@@ -27,8 +27,8 @@ pub fn calm_events_add_nothing()
 
 /// So it is with the packets that were ever put on links, whether they are acknowledged by now or not. (This project's profile.)
 pub fn calm_events_put_nothing()
-    ensures arrives { (n n' : NodeState) (by : By) (bearer number : ℕ) (bytes : List ℕ) (frames : List Outgoing) (answered : Arrival)
-        → Arrives n n' by bearer number bytes frames answered
+    ensures arrives { (n n' : NodeState) (by : By) (bearer number : ℕ) (bytes : List ℕ) (frames : List Outgoing)
+        (answered : Arrival) → Arrives n n' by bearer number bytes frames answered
         → CallTurn n n' by (Arrive bearer number) bytes (Arrived answered) frames → IsCalm n n' → PutsNothing n n' }
     ensures ticks { (n n' : NodeState) (by : By) (frames : List Outgoing) (answered : Answer)
         → Performs n by Tick n' frames answered

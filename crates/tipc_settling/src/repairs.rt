@@ -1,6 +1,7 @@
 //! How what was lost comes after all, by the frames of ticks alone. The laws do nothing when they run.
 
 ghost use Rattle.std.specs.Prelude.{◌≡◌, ◌≤◌, ℕ, List, [], None, is_some, length, true};
+ghost use Rattle.tipc_types.specs.Limits.{most_frame_bytes};
 ghost use Rattle.tipc_types.specs.Address.{node_word};
 ghost use Rattle.tipc_header.specs.declared.frames.FrameKind.TheVariants.{Links};
 ghost use Rattle.tipc_header.specs.Frames.{kind_in};
@@ -19,9 +20,9 @@ ghost use Rattle.tipc_settling.specs.Repairs.{NodesHear, SaysStateTo, SessionsHe
 /// By a tick that tells nothing of links and contacts each link end of the node that is up tells its peer the STATE of its session as it stood.
 /// (TIPC 2.0 draft: link supervision; a STATE at each tick is this project's profile.)
 pub fn ticks_tell_states()
-    ensures { (n n' : NodeState) (by : By) (frames : List Outgoing) (answered : Answer) → Performs n by Tick n' frames answered
-        → CallTurn n n' by Tick [] (kept_answer answered) frames → IsCalm n n'
-        → (peer bearer : ℕ) → bearer ≤ 1 → SaysStateTo n n' frames peer bearer }
+    ensures { (n n' : NodeState) (by : By) (frames : List Outgoing) (answered : Answer)
+        → Performs n by Tick n' frames answered → CallTurn n n' by Tick [] (kept_answer answered) frames
+        → IsCalm n n' → (peer bearer : ℕ) → bearer ≤ 1 → SaysStateTo n n' frames peer bearer }
 {}
 
 /// A link end that is up hears each STATE and each numbered packet of its session: the session goes on from what that makes of it, and the packets
@@ -39,7 +40,8 @@ pub fn nodes_hear_their_peers()
 /// Nothing stops a link packet of another node that comes on a mended bearer, in a frame of its size, where the node has a link end to its sender on
 /// that bearer. (This project's profile.)
 pub fn nothing_stops_a_peer()
-    ensures { (n : NodeState) (bearer : ℕ) (bytes : List ℕ) (peer es er : ℕ) (p : Fields) → IsFrom peer bytes es er p → kind_in bytes ≡ Links
-        → is_mended_on n.mended bearer ≡ true → 16 ≤ length bytes → length bytes ≤ 1516 → is_other n.own (node_word peer) ≡ true
+    ensures { (n : NodeState) (bearer : ℕ) (bytes : List ℕ) (peer es er : ℕ) (p : Fields) → IsFrom peer bytes es er p
+        → kind_in bytes ≡ Links → is_mended_on n.mended bearer ≡ true → 16 ≤ length bytes
+        → length bytes ≤ most_frame_bytes → is_other n.own (node_word peer) ≡ true
         → is_some (end_with bearer (neighbour_of n peer)) ≡ true → stop_of n bearer bytes ≡ None }
 {}

@@ -30,6 +30,7 @@ use Rattle.tipc_world.specs.Growth.{Grows}
 use Rattle.tipc_replay.specs.Readers.{links_of, table_of}
 use Rattle.tipc_replay.specs.Skies.{air_on}
 use Rattle.tipc_replay.specs.States.{counted, flow_of}
+use Rattle.tipc_replay.specs.Told.{IsToldOf}
 use Rattle.tipc_world.specs.States.{WorldState, is_there}
 use Rattle.tipc_world.specs.Steps.{IsJoined}
 use Rattle.tipc_world.specs.declared.places.Places.{Places}
@@ -196,11 +197,13 @@ abbrev pub beside : {A F : Type 0} → Result A F → NotesState → Result (A �
 beside (Ok value) notes = Ok (value, notes)
 beside (Err fault) notes = Err fault
 
--- a line was done: it makes the node that it names and no other, the world only grew, no frame was lost, and this is told of it
+-- a line was done: it makes the node that it names and no other, the world only grew, no frame was lost, contacts and links are then as the
+-- journals tell, and this is told of it
 pub record Happens (line : Line) (before after : Scene) (given : Told) : Type 0 where
   pub nodes : (n : ℕ) → is_there after.world n ≡ (makes line n || is_there before.world n)
   pub grown : Grows before.world after.world
   pub kept : after.world.lost ≡ false
+  pub journals : (a b : ℕ) → IsToldOf after.world.members a b
   pub answered : Answers line before.notes before.world (Ok (given, after.notes)) after.world
 
 -- a line was begun, and a limit stopped one of its events; the world only grew, and no frame was lost

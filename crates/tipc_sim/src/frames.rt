@@ -1,4 +1,4 @@
-//! Lines that move frames: arrivals, `drain`, `pump` and `settle`.
+//! Lines that move frames: arrivals, `pump` and `settle`.
 
 ghost use Rattle.std.specs.Prelude.{◌≡◌, ◌≤◌, ◌*◌};
 ghost use Rattle.tipc_world.specs.Events.{CanHappen};
@@ -27,7 +27,7 @@ pub fn make<P: Pick>(
 
 /// Lets the frames of a bearer from a place on arrive at the receivers, with those that are sent meanwhile, until none is left, and
 /// answers how many arrived.
-pub fn drain<P: Pick>(
+pub fn empty_air<P: Pick>(
     alloc: Global,
     among: Receivers,
     bearer: u8,
@@ -35,7 +35,8 @@ pub fn drain<P: Pick>(
     world: &mut World<P>,
 ) -> Result<u64, WorldFault>
     requires { bearer ≤ 1 }
-    ensures comes { Drains (arrival_asked among bearer) bearer (numbers * first) world.old.state result world.new.state }
+    ensures comes { Drains (arrival_asked among bearer) bearer (numbers * first) world.old.state result
+        world.new.state }
     ensures continues { Continues P.gives world.old world.new }
 {
     let mut place = first;
@@ -58,7 +59,7 @@ pub fn pump<P: Pick>(
     ensures comes { Pumps bearer place world.old.state result world.new.state }
     ensures continues { Continues P.gives world.old world.new }
 {
-    let count = drain(alloc, Receivers::Any, bearer, place, world)?;
+    let count = empty_air(alloc, Receivers::Any, bearer, place, world)?;
     Ok(Told::Pumped(count))
 }
 

@@ -107,13 +107,19 @@ fn send(node: u8, port: u32, to: Destination, importance: Importance, body: Body
     call(node, sending)
 }
 
-/// The number of a filter. (Programmer's guide.)
+/// The filter under which each publication has its event. (Programmer's guide.)
+const PORTS: u32 = 1;
+
+/// The filter under which each distinct range has its event. (Programmer's guide.)
+const SERVICE: u32 = 2;
+
+/// The number of a filter.
 fn filter_number(filter: Filter) -> u32
     ensures { result ≡ filter_number filter }
 {
     match filter {
-        Filter::Ports => 1,
-        Filter::Service => 2,
+        Filter::Ports => PORTS,
+        Filter::Service => SERVICE,
     }
 }
 

@@ -5,7 +5,7 @@ ghost use Rattle.tipc_world.specs.States.{is_there};
 ghost use Rattle.tipc_world.specs.Courses.{Continues};
 ghost use Rattle.tipc_sim.specs.Meanings.{told_of_link, Links, MendsBoth, MendsCut};
 
-use crate::frames::{drain, make};
+use crate::frames::{empty_air, make};
 use std::alloc::Global;
 use tipc_pick::Pick;
 use tipc_report::Told;
@@ -80,6 +80,6 @@ pub fn link<P: Pick>(
 {
     let place = world.air_len(bearer);
     mend_both(alloc, first, second, bearer, world)?;
-    drain(alloc, Receivers::Both(first, second), bearer, place, world)?;
+    empty_air(alloc, Receivers::Both(first, second), bearer, place, world)?;
     Ok(told_of_link(first, second, bearer, world))
 }

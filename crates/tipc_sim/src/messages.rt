@@ -6,7 +6,7 @@ ghost use Rattle.tipc_world.specs.States.{is_there};
 ghost use Rattle.tipc_world.specs.Courses.{Continues, Once};
 ghost use Rattle.tipc_sim.specs.Messages.{told_of_drained, is_call, is_message, is_sent, Bursts, PumpsAndReceives, PumpsBoth, ReceivesAll, SendsAgain, Turn};
 
-use crate::frames::{drain, make};
+use crate::frames::{empty_air, make};
 use std::alloc::{AllocError, Global};
 use tipc_pick::Pick;
 use tipc_report::Told;
@@ -144,9 +144,9 @@ fn pump_both<P: Pick>(
     ensures comes { PumpsBoth places world.old.state result world.new.state }
     ensures continues { Continues P.gives world.old world.new }
 {
-    drain(alloc, Receivers::Any, 0, places.first, world)?;
+    empty_air(alloc, Receivers::Any, 0, places.first, world)?;
     let first = world.air_len(0);
-    drain(alloc, Receivers::Any, 1, places.second, world)?;
+    empty_air(alloc, Receivers::Any, 1, places.second, world)?;
     Ok(Places {
         first,
         second: world.air_len(1),

@@ -145,8 +145,8 @@ fn run_line<K: Sink, P: Pick>(
     ensures good { IsGood P.gives world.new }
     ensures grows { Grows world.old.state world.new.state }
     ensures kept { (result ≡ Err Status.NoMemory → ⊥) → world.new.state.lost ≡ false }
-    ensures run { LineRuns result from number text.now (scene world.old.state notes.old) (scene world.new.state notes.new)
-        (K.contents sink.old) (K.contents sink.new) }
+    ensures run { LineRuns result from number text.now (scene world.old.state notes.old)
+        (scene world.new.state notes.new) (K.contents sink.old) (K.contents sink.new) }
     ensures failed { IsErrOf result Status.WriteFault → Rose (K.faults sink.old) (K.faults sink.new) ⊎
         Rose (K.stalls sink.old) (K.stalls sink.new) }
     ensures later { K.faults sink.old ≤ K.faults sink.new }

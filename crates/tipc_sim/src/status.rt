@@ -6,7 +6,7 @@ ghost use Rattle.tipc_sim.specs.Statuses.{after_flush, after_streams, code_of};
 /// How a run ends. (This project's profile.)
 #[derive(Clone, Copy, Debug, PartialEq, Eq)]
 pub enum Status {
-    /// All input was read to its end and every line done.
+    /// The script was run to its end, or the audit of a live run said yes and no bearer was seen to fail.
     Ok,
     /// The words after the program's name aren't a form: nothing is read or written.
     Usage,

@@ -6,11 +6,11 @@ use Rattle.std.proofs.lemmas.List.Elements.{All-from_recursion}
 use Rattle.std.proofs.lemmas.List.Sums.{sum_by_push}
 use mathlib.Core.Option.{some, some-ne-none}
 use lib.ListN.{get_elem?, length-set}
-use Rattle.atomic_table.specs.Table.{keeps, opening, Allows, Me, Splits, State}
+use Rattle.atomic_table.specs.Table.{keeps, Allows, Me, Splits, State}
 use Rattle.atomic_table.proofs.Lists.{at_set, at_snoc}
 use Rattle.tipc_stamp.specs.declared.rule.Drawn.{Drawn}
 use Rattle.tipc_stamp.specs.Given.{knows, once_below, times, Draws, Given, IsAhead, Looks}
-use Rattle.tipc_stamp.proofs.Counting.{once_more, once_none, once_within, sum_has, sum_set, times_cons, times_last, times_self}
+use Rattle.tipc_stamp.proofs.Counting.{once_more, once_within, sum_has, sum_set, times_cons, times_last, times_self}
 
 word_set : (words : List ℕ) (n : ℕ) → length words ≡ 1 → slice_index (set words 0 n) 0 ≡ n
 word_set [] n one = absurd (omega (arith, one))
@@ -31,14 +31,6 @@ ahead s given id v at =
       All-from_recursion (λ x. x < n) v.drawn (below_by n v.drawn (λ x. let one = given.each x in let has = sum_has (λ (u : Drawn). times x u.drawn) s.views id v at in omega (arith, one, has))),
       given.seen id v at,
     )
-
-pub begins : Given (opening {S = ℕ} (0 ∷ []) [] (knows [] (2 ^ 50) 0))
-begins = record {
-  word = refl;
-  each = λ x. let none : once_below x 0 ≡ 0 = once_none x in sym none;
-  budget = omega arith;
-  seen = λ id v at. ⊎_elim (λ found. absurd (some-ne-none v (sym found))) (λ is. let same = ap (λ (u : Drawn). u.seen) is in omega (arith, same)) (at_snoc [] (knows [] (2 ^ 50) 0) v id at);
-}
 
 pub draws : {S : Type 0} (slots id : ℕ) (me : Me S Drawn) → 0 < me.0.left → Allows Given slots id me 0 (λ n. (n + 1) % 2 ^ 64) (Draws me)
 draws slots id me more s given homes at small =

@@ -40,5 +40,6 @@ pub fn inner_packets_keep_all_but_the_number()
     ensures inside { (bytes : List ℕ) → (number : ℕ) → IsTunnellable bytes → number < 2 ^ 16 →
         IsNumbered number (numbered number bytes) }
     ensures same { (bytes : List ℕ) → (number : ℕ) → IsNumbered number bytes → numbered number bytes ≡ bytes }
-    ensures size { (bytes : List ℕ) → (number : ℕ) → IsTunnellable bytes → length (numbered number bytes) ≡ length bytes }
+    ensures size { (bytes : List ℕ) → (number : ℕ) → IsTunnellable bytes
+        → length (numbered number bytes) ≡ length bytes }
 {}

@@ -1,7 +1,7 @@
 //! Putting a packet into a tunnel packet.
 
 ghost use Rattle.std.specs.Prelude.{◌≡◌, ◌≤◌, ◌<◌, ◌^◌, [], length, IfOk};
-ghost use Rattle.tipc_types.specs.Limits.{most_packet_bytes};
+ghost use Rattle.tipc_types.specs.Limits.{most_packet_bytes, most_tunnel_bytes};
 ghost use Rattle.tipc_header.specs.Spelling.{spelling};
 ghost use Rattle.tipc_tunnel.specs.Tunnels.{header_of, numbered, tunnel_packet, MayBeWrapped, IsRun};
 
@@ -68,7 +68,7 @@ pub fn wrap(
       number = number;
       inner = numbered number inner.now;
     }))) }
-    ensures within { IfOk result (λ bytes. length bytes ≤ 1500) }
+    ensures within { IfOk result (λ bytes. length bytes ≤ most_tunnel_bytes) }
 {
     let carried = numbered(alloc, number, inner)?;
     let packet = Packet {

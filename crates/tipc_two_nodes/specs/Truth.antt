@@ -3,7 +3,7 @@
 use Rattle.std.specs.Prelude.{◌≡◌, ◌≤◌, ℕ, ◌+◌, true, not, All, List, [], ◌∷◌, Some, filter, length, map, slice_get, take}
 use Rattle.std.specs.List.{flat_map}
 use Rattle.tipc_types.specs.Position.{number_of}
-use Rattle.tipc_types.specs.Limits.{most_frame_bytes}
+use Rattle.tipc_types.specs.Limits.{most_frame_bytes, most_tunnel_bytes}
 use Rattle.tipc_header.specs.Frames.{frame_of}
 use Rattle.tipc_header.specs.Grammar.{Fits}
 use Rattle.tipc_header.specs.Spelling.{Fields, spelling}
@@ -56,7 +56,7 @@ plain_packets packets = filter (λ packet. not (is_tunnel packet)) packets
 -- at most 1,500 bytes.
 pub record HoldInOrder (packets : List (List ℕ)) (slots : List Slot) : Type 0 where
   pub plain : AreSomeOf (plain_packets packets) (map slot_bytes slots)
-  pub sizes : All (λ packet. length packet ≤ 1500) packets
+  pub sizes : All (λ packet. length packet ≤ most_tunnel_bytes) packets
 
 -- a packet stands in a line at the position of its number
 pub record IsNumbered (line : List (List ℕ)) (number : ℕ) (bytes : List ℕ) : Type 0 where

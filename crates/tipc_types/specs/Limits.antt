@@ -9,7 +9,11 @@ window_size = 50
 abbrev pub most_packet_bytes : ℕ
 most_packet_bytes = 1452
 
--- so many bytes are in a frame at most: an envelope of 16, a tunnel packet's header of 48, and a packet
+-- so many bytes are in a tunnel packet at most: a header of 48, and a packet
+abbrev pub most_tunnel_bytes : ℕ
+most_tunnel_bytes = 1500
+
+-- so many bytes are in a frame at most: an envelope of 16, and a tunnel packet
 abbrev pub most_frame_bytes : ℕ
 most_frame_bytes = 1516
 

@@ -15,13 +15,13 @@ const MOST_SHORT: usize = 14;
 #[derive(Debug, Drop)]
 pub(crate) enum HeldBytes {
     /// So many, the first of these.
-    Short(u8, [u8; 14]),
+    Short(u8, [u8; MOST_SHORT]),
     /// So many, the first of these, which every copy shares.
     Shared(u32, ArcSlice<u8>),
 }
 
 impl HeldBytes {
-    /// These bytes, at most 14.
+    /// These bytes, at most MOST_SHORT.
     fn short(bytes: &[u8]) -> HeldBytes
         requires { length bytes.now ≤ 14 }
         ensures value { bytes_of result ≡ bytes.now }

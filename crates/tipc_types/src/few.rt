@@ -184,6 +184,10 @@ impl<T: Drop> Few<T> {
     }
 
     /// Adds a value at the end.
+    ///
+    /// # Errors
+    ///
+    /// Where memory runs out. The list is unchanged then.
     pub fn push(&mut self, value: T) -> Result<(), NoMemory>
         ensures ok { OnOk result (self.new ≡ self.old ++ value ∷ []) }
         ensures err { OnErr result (self.new ≡ self.old) }

@@ -7,7 +7,6 @@ use crate::identity::{Addr, PortId};
 use crate::link_words::{LinkState, Why};
 use crate::memory::NoMemory;
 use crate::message_forms::{Importance, Message};
-use crate::sequences::Sequence;
 use crate::services::{Scope, ServiceRange};
 use std::alloc::AllocError;
 

@@ -102,6 +102,10 @@ impl<T> Sequence<T> {
 
 impl<T: Drop> Sequence<T> {
     /// Adds an element at the end.
+    ///
+    /// # Errors
+    ///
+    /// Where memory runs out. The list is unchanged then.
     pub fn push(&mut self, item: T) -> Result<(), NoMemory>
         ensures ok { OnOk result (self.new ≡ self.old ++ item ∷ []) }
         ensures err { OnErr result (self.new ≡ self.old) }
@@ -113,6 +117,10 @@ impl<T: Drop> Sequence<T> {
 
 impl<T: Copy> Sequence<T> {
     /// A list of the same elements.
+    ///
+    /// # Errors
+    ///
+    /// Where memory runs out.
     pub fn from_slice(alloc: Global, items: &[T]) -> Result<Sequence<T>, NoMemory>
         ensures { IfOk result (λ copy. copy ≡ items.now) }
     {

@@ -17,15 +17,7 @@ pub record Bound : Type 0 where
 
 -- the same bearer with other counts
 abbrev pub counting : Bound → ℕ → ℕ → ℕ → Bound
-counting b faults tried given = record {
-  node = b.node;
-  bearer = b.bearer;
-  base = b.base;
-  nodes = b.nodes;
-  faults = faults;
-  tried = tried;
-  given = given;
-}
+counting b faults tried given = record b { faults = faults; tried = tried; given = given }
 
 -- this port of 127.0.0.1
 abbrev pub IsLoopback : SocketAddr → ℕ → Type 0

@@ -16,7 +16,7 @@ use tipc_types::To;
 /// that a longer one isn't a frame.
 const MOST_BYTES: usize = 2_048;
 
-/// How many ports lie between those of a node's two bearers.
+/// How far the port of a node's bearer 1 lies above that of its bearer 0.
 const PORTS_OF_BEARER: u16 = 64;
 
 /// A node's bearer over UDP. It stands at the port `base + 64 * bearer + node` of 127.0.0.1, and takes what comes there from
@@ -153,7 +153,8 @@ impl Bearer for UdpBearer {
         ensures cause { IsErrOf result BearerFault.Failed → Rose self.old.faults self.new.faults }
         ensures tried { self.new.tried ≡ counted self.old.tried }
         ensures given { self.new.given ≡ self.old.given }
-        ensures ok { OnOk result (self.new ≡ counting self.old self.old.faults (counted self.old.tried) self.old.given) }
+        ensures ok { OnOk result (self.new ≡ counting self.old self.old.faults (counted self.old.tried)
+            self.old.given) }
         ensures err { OnErr result ((result ≡ Err BearerFault.Failed) ×
             (self.new ≡ counting self.old (counted self.old.faults) (counted self.old.tried) self.old.given)) }
     {

@@ -19,7 +19,8 @@ use tipc_types::{EventNote, NoMemory};
 pub(crate) const MOST_TRIES: u32 = 1_000;
 
 /// Sends a message from a port, again as long as nobody has the name yet or too many packets wait, and receives once behind each try.
-/// Answers whether the journal had room for that.
+/// Answers whether the journal had room for all of it. A message that isn't sent in 1,000 tries is given up, which the answer doesn't
+/// tell.
 #[tactic(auto, using(crate::proofs::Sending::full_so, crate::proofs::Sending::sent_so, crate::proofs::Sending::tried_most, crate::proofs::Carrying::same_then))]
 fn send_one<R: Wait, P: Pick, G: Gate>(
     rt: &R,
@@ -31,7 +32,8 @@ fn send_one<R: Wait, P: Pick, G: Gate>(
 ) -> Result<bool, NoMemory>
     requires pass { IsPassOf post.now.lock.now worker.old }
     requires left { MayDrawFor 1000 worker.old }
-    ensures sent { IfOk result (λ on. SendsOne (named_send post.now.plan.now post.now.node caller port number) worker.old worker.new on) }
+    ensures sent { IfOk result (λ on. SendsOne (named_send post.now.plan.now post.now.node caller port number)
+        worker.old worker.new on) }
     ensures same { IsSameCaller worker.old worker.new }
     ensures stays { IsPassOf post.now.lock.now worker.new }
     ensures few { DrawsFor 1000 worker.old worker.new }
@@ -61,7 +63,8 @@ fn send_all<R: Wait, P: Pick, G: Gate>(
 ) -> Result<bool, NoMemory>
     requires pass { IsPassOf post.now.lock.now worker.old }
     requires left { MayDrawFor 1000000 worker.old }
-    ensures sent { IfOk result (λ on. SendsMany (named_send post.now.plan.now post.now.node caller port) post.now.plan.now.messages worker.old worker.new on) }
+    ensures sent { IfOk result (λ on. SendsMany (named_send post.now.plan.now post.now.node caller port)
+        post.now.plan.now.messages worker.old worker.new on) }
     ensures same { IsSameCaller worker.old worker.new }
 {
     for number in 0..post.plan.messages {

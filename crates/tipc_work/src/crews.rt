@@ -71,14 +71,16 @@ fn call_each<R: Threads + Wait + Sync, P: Pick + Send + Sync, G: Gate + Sync>(
 ) -> Result<Vec<Pass>, NoMemory>
     requires callers { AreCallers post.now.lock.now passes.items }
     requires count { (length passes.items ≡ post.now.plan.now.callers) × (length passes.items ≤ 8) }
-    ensures { IfOk result (λ after. HaveCalled post.now.plan.now post.now.node post.now.lock.now post.now.plan.now.callers after.items) }
+    ensures { IfOk result (λ after. HaveCalled post.now.plan.now post.now.node post.now.lock.now
+        post.now.plan.now.callers after.items) }
 {
     let called = thread::map_vec(
         rt,
         passes,
         &|pass: Pass| -> Result<Pass, NoMemory>
             requires { IsUnusedPass post.now.lock.now pass.caller pass × (pass.caller ≤ 8) }
-            ensures { IfOk result (λ after. HasCalled post.entry.now.plan.now post.entry.now.node pass.caller post.entry.now.lock.now after) }
+            ensures { IfOk result (λ after. HasCalled post.entry.now.plan.now post.entry.now.node pass.caller
+                post.entry.now.lock.now after) }
         { call(rt, post, pass) },
     )?;
     Ok(all_of(post.alloc, called)?)
@@ -140,7 +142,8 @@ fn do_both<
         &|job: Job<B, C>| -> Result<Done<B>, NoMemory>
             requires { IsJobOf post.now.plan.now post.now.lock.now job }
             ensures { IfOk result (λ done.
-                HasDone B.tried B.given B.faults post.entry.now.plan.now post.entry.now.node post.entry.now.lock.now job done) }
+                HasDone B.tried B.given B.faults post.entry.now.plan.now post.entry.now.node post.entry.now.lock.now
+                job done) }
         { do_job(rt, post, job) },
     )?;
     Ok(all_of(post.alloc, done)?)
@@ -206,8 +209,8 @@ pub(crate) fn work_at<
     G: Gate + Sync,
 >(rt: &R, post: &Post<'_, '_, '_, P, G>, crew: Crew<B, C>) -> Result<Crewed<B>, NoMemory>
     requires unused { AreUnusedPasses post.now.plan.now post.now.lock.now crew.passes.items }
-    ensures { IfOk result (λ after. HasWorked B.tried B.given B.faults post.now.plan.now post.now.node post.now.lock.now crew.first crew.second
-        after.passes.items after.failed after.first after.second) }
+    ensures { IfOk result (λ after. HasWorked B.tried B.given B.faults post.now.plan.now post.now.node
+        post.now.lock.now crew.first crew.second after.passes.items after.failed after.first after.second) }
 {
     let Crew {
         mut passes,

@@ -170,8 +170,8 @@ impl<B: Drop, C: Drop> Mover<B, C> {
     /// Gives pass and bearers back.
     fn end(self) -> Result<Moved<B>, NoMemory>
         ensures pass { IfOk result (λ moved. (moved.pass ≡ self.pass) × (self.pass.short ≡ false)) }
-        ensures bearers { IfOk result (λ moved. (moved.first ≡ self.bearers.first) × (moved.second ≡ self.bearers.second) ×
-            (moved.failed ≡ self.bearers.failed)) }
+        ensures bearers { IfOk result (λ moved. (moved.first ≡ self.bearers.first) ×
+            (moved.second ≡ self.bearers.second) × (moved.failed ≡ self.bearers.failed)) }
     {
         let Mover { pass, bearers, .. } = self;
         let Bearers {
@@ -203,7 +203,8 @@ impl<B, C: Clock> Mover<B, C> {
         mut clock: C,
     ) -> Mover<B, C>
         ensures pass { result.pass ≡ pass }
-        ensures bearers { (result.bearers.first ≡ first) × (result.bearers.second ≡ second) × (result.bearers.failed ≡ false) }
+        ensures bearers { (result.bearers.first ≡ first) × (result.bearers.second ≡ second) ×
+            (result.bearers.failed ≡ false) }
         ensures told { C.last result.clock ≡ result.time }
     {
         let time = clock.now();
@@ -312,7 +313,8 @@ pub(crate) fn move_frames<R: Wait, P: Pick, G: Gate, B: Bearer + Drop, C: Clock 
     clock: C,
 ) -> Result<Moved<B>, NoMemory>
     requires unused { IsUnusedPass post.now.lock.now pass.caller pass }
-    ensures { IfOk result (λ m. HasMoved B.tried B.given B.faults post.now.lock.now pass.caller first second m.pass m.failed m.first m.second) }
+    ensures { IfOk result (λ m. HasMoved B.tried B.given B.faults post.now.lock.now pass.caller first second m.pass
+        m.failed m.first m.second) }
 {
     let mut mover = Mover::new(post, pass, first, second, clock);
     mover.mend(rt, post)?;

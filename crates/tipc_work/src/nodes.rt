@@ -62,7 +62,8 @@ pub fn lock_nodes<'s, P: Drop>(
     requires plan { IsLivePlan plan.now }
     requires choosers { (length choosers.items ≡ plan.now.nodes) × All (λ chooser. chooser.turn ≡ 0) choosers.items }
     requires seats { seats.items ≡ replicate (plan.now.nodes * (plan.now.callers + 1)) (new_seat stamps.now) }
-    ensures can { IfOk result (λ n. CanWork plan.now n.locks.items (map (λ v. v.items) n.passes.items) (2 * plan.now.nodes) plan.now.nodes) }
+    ensures can { IfOk result (λ n. CanWork plan.now n.locks.items (map (λ v. v.items) n.passes.items)
+        (2 * plan.now.nodes) plan.now.nodes) }
     ensures callers { IfOk result (λ n. All (λ lock. lock.callers ≡ plan.now.callers + 1) n.locks.items) }
 {
     let callers = u32::from(plan.callers) + 1;

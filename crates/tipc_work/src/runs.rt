@@ -99,8 +99,8 @@ fn work_crew<
     G: Gate + Sync,
 >(rt: &R, run: &Run<'_, '_, '_, P, G>, crew: Crew<B, C>) -> Result<Crewed<B>, NoMemory>
     requires { CanWorkAt run.now.plan.now run.now.locks.now crew.place crew.passes.items }
-    ensures { IfOk result (λ after. HasWorkedAt B.tried B.given B.faults run.now.plan.now run.now.locks.now crew.place crew.first crew.second
-        after.passes.items after.failed after.first after.second) }
+    ensures { IfOk result (λ after. HasWorkedAt B.tried B.given B.faults run.now.plan.now run.now.locks.now
+        crew.place crew.first crew.second after.passes.items after.failed after.first after.second) }
 {
     let post = run.post(crew.place);
     work_at(rt, &post, crew)
@@ -117,17 +117,20 @@ fn work_each<
     requires { All (λ crew. CanWorkAt run.now.plan.now run.now.locks.now crew.place crew.passes.items) crews.items }
     ensures len { IfOk result (λ done. length done.items ≡ length crews.items) }
     ensures each { IfOk result (λ done. (i : ℕ) (x : _) (a : _) → i < length crews.items
-        → HasWorkedAt B.tried B.given B.faults run.now.plan.now run.now.locks.now (slice_index_or crews.items i x).place (slice_index_or crews.items i x).first
-        (slice_index_or crews.items i x).second (slice_index_or done.items i a).passes.items (slice_index_or done.items i a).failed
-        (slice_index_or done.items i a).first (slice_index_or done.items i a).second) }
+        → HasWorkedAt B.tried B.given B.faults run.now.plan.now run.now.locks.now
+        (slice_index_or crews.items i x).place (slice_index_or crews.items i x).first
+        (slice_index_or crews.items i x).second (slice_index_or done.items i a).passes.items
+        (slice_index_or done.items i a).failed (slice_index_or done.items i a).first
+        (slice_index_or done.items i a).second) }
 {
     let worked = thread::map_vec(
         rt,
         crews,
         &|crew: Crew<B, C>| -> Result<Crewed<B>, NoMemory>
             requires { CanWorkAt run.now.plan.now run.now.locks.now crew.place crew.passes.items }
-            ensures { IfOk result (λ after. HasWorkedAt B.tried B.given B.faults run.entry.now.plan.now run.entry.now.locks.now crew.place crew.first
-                crew.second after.passes.items after.failed after.first after.second) }
+            ensures { IfOk result (λ after. HasWorkedAt B.tried B.given B.faults run.entry.now.plan.now
+                run.entry.now.locks.now crew.place crew.first crew.second after.passes.items after.failed after.first
+                after.second) }
         { work_crew(rt, run, crew) },
     )?;
     Ok(all_of(run.alloc, worked)?)
@@ -162,7 +165,8 @@ pub fn work<
     clocks: Vec<C>,
     gate: &'a G,
 ) -> Result<Worked<B>, NoMemory>
-    requires can { CanWork plan.now locks.now (map (λ v. v.items) passes.items) (length bearers.items) (length clocks.items) }
+    requires can { CanWork plan.now locks.now (map (λ v. v.items) passes.items) (length bearers.items)
+        (length clocks.items) }
     ensures worked { IfOk result (λ w. HaveWorked B.tried B.given B.faults plan.now locks.now bearers.items
         (map (λ v. v.items) w.passes.items) w.failed w.bearers.items) }
 {

@@ -20,6 +20,9 @@ use tipc_outside::{Gate, Outbox};
 use tipc_pick::Pick;
 use tipc_types::{Answer, EventNote, NoMemory};
 
+/// How many numbers at the gate each node has. (This project's profile.)
+const NUMBERS_OF_NODE: u32 = 16;
+
 /// A live run: what the callers and movers of all nodes share. The locks are those of the nodes, in order.
 #[derive(Drop)]
 pub(crate) struct Run<'a, 'w, 's, P, G> {
@@ -77,7 +80,7 @@ impl<'a, 'w, 's, P, G> Post<'a, 'w, 's, P, G> {
     fn number_at_gate(&self, caller: u32) -> u32
         requires { caller ≤ 8 }
     {
-        u32::from(self.node - 1) * 16 + caller
+        u32::from(self.node - 1) * NUMBERS_OF_NODE + caller
     }
 }
 

@@ -22,7 +22,8 @@ use tipc_work::*;
 
 /// Choosers that take the matches in turn.
 fn choosers(alloc: Global, nodes: u8) -> Result<Vec<Chooser<RoundRobin>>, NoMemory>
-    ensures { IfOk result (λ choosers. (length choosers.items ≡ nodes) × All (λ chooser. chooser.turn ≡ 0) choosers.items) }
+    ensures { IfOk result (λ choosers. (length choosers.items ≡ nodes) ×
+        All (λ chooser. chooser.turn ≡ 0) choosers.items) }
 {
     let mut choosers = Vec::new(alloc);
     for _ in 0..nodes {

@@ -53,6 +53,8 @@ pub record IsMetNode (start : WorldState) (most step n : ℕ) (m : MemberState) 
   pub answers : 1 ≤ step → (b bearer : ℕ) → ShareBearer start n b bearer → IsAnswering start n b bearer m
   pub up : 2 ≤ step → (b bearer : ℕ) → ShareBearer start n b bearer → HasLinkUp b bearer m
 
+-- likewise of a world that goes on from there: each node is so, and each frame that was sent since left on a bearer that
+-- was mended, and is up to date with what its sender was when the call began
 abbrev pub IsMetWorld : WorldState → ℕ → ℕ → WorldState → Type 0
 IsMetWorld start most step w = Guards start (ends_of start.air) (IsMetNode start most step) (IsFromMended start) w
 

@@ -17,12 +17,14 @@ pub enum Limit {
     Journal,
 }
 
-/// Why an event has no answer.
+/// Why an event has no answer. What is said of changes here is said of one event: where a call makes several, as
+/// `World::arrive` and `World::settle` do, those before it happened.
 #[derive(Clone, Copy, Debug, PartialEq, Eq)]
 pub enum WorldFault {
     /// A limit was reached. At Events and Journal nothing is changed; at Frames the event happened, and the air has passed its limit.
     Limit(Limit),
-    /// Memory ran out. Nothing is changed.
+    /// Memory ran out. Nothing is changed by the event. `World::settle` answers so too where all its rounds were made and a
+    /// frame was lost, in one of them or before.
     NoMemory,
 }
 

@@ -31,7 +31,8 @@ ghost use Rattle.tipc_world.specs.StillWorlds.{HasHeardAll, IsStillWorld, MayBeS
 /// node ticks, and then frames arrive on bearer 0, and then on bearer 1. (This project's profile.)
 pub fn rounds_have_their_parts()
     ensures course { (asks : Asks) (first number : ℕ) (start : WorldState) (end count : ℕ) (now : WorldState)
-        → first ≤ number → number < end → Goes asks first start end count now → PartsAt asks first number end start now }
+        → first ≤ number → number < end → Goes asks first start end count now
+        → PartsAt asks first number end start now }
     ensures rounds { (start : WorldState) (made rounds : ℕ) (places : Places) (now : WorldState)
         → made ≤ rounds → Rounds start rounds places now → PartsAtRound start made rounds places now }
     ensures round { (places : Places) (start : WorldState) (ends : Places) (now : WorldState)
@@ -47,8 +48,8 @@ pub fn settling_goes_by_events()
     ensures ticks { (from : Places) (number : ℕ) (old : WorldState) (made : Bool) (new : WorldState)
         → Takes tick_asked number old (Ok made) new → new.lost ≡ false → RoundStep from old new }
     ensures arrives { (from : Places) (bearer number : ℕ) (old : WorldState) (made : Bool) (new : WorldState)
-        → bearer ≤ 1 → place_on bearer from ≤ number / numbers → Takes (arrival_asked Any bearer) number old (Ok made) new
-        → new.lost ≡ false → RoundStep from old new }
+        → bearer ≤ 1 → place_on bearer from ≤ number / numbers
+        → Takes (arrival_asked Any bearer) number old (Ok made) new → new.lost ≡ false → RoundStep from old new }
     ensures frames { (old new : WorldState) (event : WorldEvent) (bytes : List ℕ) (answered : Answer)
         (h : HappensWhole old new event bytes answered) (bearer place : ℕ) (f : Sent) → bearer ≤ 1
         → slice_get (air_on bearer new.air) place ≡ Some f → ComesFrom old new (node_of event) h.frames bearer place f }
@@ -63,21 +64,22 @@ pub fn settling_goes_by_events()
 /// In a round in which no frame is lost, each node that is there ticks once: the ticks of the others leave it as it is, and all frames that leave it
 /// stand in the air. (This project's profile.)
 pub fn each_node_ticks_once_a_round()
-    ensures { (places : Places) (start : WorldState) (ends : Places) (now : WorldState) (r : IsRound places start ends now) (n : ℕ)
-        → now.lost ≡ false → 1 ≤ n → n ≤ 32 → is_there start n ≡ true → HasTickedOnce start r.ticked n }
+    ensures { (places : Places) (start : WorldState) (ends : Places) (now : WorldState)
+        (r : IsRound places start ends now) (n : ℕ) → now.lost ≡ false → 1 ≤ n → n ≤ 32 → is_there start n ≡ true
+        → HasTickedOnce start r.ticked n }
 {}
 
 /// In a round in which no frame is lost, each frame that stands in the air at or behind the first places of the round, after the ticks, arrives once at
 /// each node that it is for and that is there, and has its effect there if it isn't too old then: on bearer 0, and on bearer 1 behind that. No
 /// other number of the round asks for this arrival. (This project's profile.)
 pub fn each_frame_arrives_once_a_round()
-    ensures first { (places : Places) (start : WorldState) (ends : Places) (now : WorldState) (r : IsRound places start ends now)
-        (place n : ℕ) (f : Sent) → now.lost ≡ false → n ≤ 32 → is_there start n ≡ true → places.first ≤ place
-        → frame_for r.ticked.air n 0 place ≡ Some f
+    ensures first { (places : Places) (start : WorldState) (ends : Places) (now : WorldState)
+        (r : IsRound places start ends now) (place n : ℕ) (f : Sent) → now.lost ≡ false → n ≤ 32
+        → is_there start n ≡ true → places.first ≤ place → frame_for r.ticked.air n 0 place ≡ Some f
         → HasArrivedOnce 0 places.first (length r.ticked.air.first) r.ticked r.between place n f }
-    ensures second { (places : Places) (start : WorldState) (ends : Places) (now : WorldState) (r : IsRound places start ends now)
-        (place n : ℕ) (f : Sent) → now.lost ≡ false → n ≤ 32 → is_there start n ≡ true → places.second ≤ place
-        → frame_for r.ticked.air n 1 place ≡ Some f
+    ensures second { (places : Places) (start : WorldState) (ends : Places) (now : WorldState)
+        (r : IsRound places start ends now) (place n : ℕ) (f : Sent) → now.lost ≡ false → n ≤ 32
+        → is_there start n ≡ true → places.second ≤ place → frame_for r.ticked.air n 1 place ≡ Some f
         → HasArrivedOnce 1 places.second (length r.ticked.air.second) r.between now place n f }
     ensures once { (bearer place n number : ℕ) (w : WorldState)
         → arrival_asked Any bearer w number ≡ Some (Arrive n bearer place) → number ≡ numbers * place + n }
@@ -86,15 +88,17 @@ pub fn each_frame_arrives_once_a_round()
 /// In a round in which no frame is lost, each frame that leaves a node at its tick arrives once, in the same round, at each node that it is for and that
 /// is there, where the first places of the round aren't behind the ends of the air with which it begins. (This project's profile.)
 pub fn what_a_tick_sends_arrives()
-    ensures first { (places : Places) (start : WorldState) (ends : Places) (now : WorldState) (r : IsRound places start ends now)
-        (b n k : ℕ) (t : HasTickedOnce start r.ticked b) (o : Outgoing) → now.lost ≡ false → AreBefore places (ends_of start.air)
-        → n ≤ 32 → is_there start n ≡ true → slice_get (filter (is_on 0) t.ticks.frames) k ≡ Some o
+    ensures first { (places : Places) (start : WorldState) (ends : Places) (now : WorldState)
+        (r : IsRound places start ends now) (b n k : ℕ) (t : HasTickedOnce start r.ticked b) (o : Outgoing)
+        → now.lost ≡ false → AreBefore places (ends_of start.air) → n ≤ 32 → is_there start n ≡ true
+        → slice_get (filter (is_on 0) t.ticks.frames) k ≡ Some o
         → is_for (record { word = node_word b }) o.to n ≡ true
         → TickBrings 0 places.first (length r.ticked.air.first) start r.ticked r.ticked r.between n
         (airborne (contact_at t.before.members b) t.after.members b o) }
-    ensures second { (places : Places) (start : WorldState) (ends : Places) (now : WorldState) (r : IsRound places start ends now)
-        (b n k : ℕ) (t : HasTickedOnce start r.ticked b) (o : Outgoing) → now.lost ≡ false → AreBefore places (ends_of start.air)
-        → n ≤ 32 → is_there start n ≡ true → slice_get (filter (is_on 1) t.ticks.frames) k ≡ Some o
+    ensures second { (places : Places) (start : WorldState) (ends : Places) (now : WorldState)
+        (r : IsRound places start ends now) (b n k : ℕ) (t : HasTickedOnce start r.ticked b) (o : Outgoing)
+        → now.lost ≡ false → AreBefore places (ends_of start.air) → n ≤ 32 → is_there start n ≡ true
+        → slice_get (filter (is_on 1) t.ticks.frames) k ≡ Some o
         → is_for (record { word = node_word b }) o.to n ≡ true
         → TickBrings 1 places.second (length r.ticked.air.second) start r.ticked r.between now n
         (airborne (contact_at t.before.members b) t.after.members b o) }
@@ -112,19 +116,21 @@ pub fn no_packets_are_quiet()
 pub fn nothing_goes_down_in_a_round()
     ensures poised { (w : WorldState) → IsKept w → IsPoised w → MayBeStill w }
     ensures down { (w : WorldState) → IsDownWorld w → MayBeStill w }
-    ensures begins { (start : WorldState) → IsKept start → MayBeStill start → start.lost ≡ false → IsStillWorld start start }
-    ensures round { (start : WorldState) (places : Places) (outset : WorldState) (ends : Places) (now : WorldState) → IsKept start
-        → AreBefore (ends_of start.air) places → IsRound places outset ends now → now.lost ≡ false → IsStillWorld start outset
-        → EachNode HasHeardAll outset → IsStillWorld start now }
+    ensures begins { (start : WorldState) → IsKept start → MayBeStill start → start.lost ≡ false
+        → IsStillWorld start start }
+    ensures round { (start : WorldState) (places : Places) (outset : WorldState) (ends : Places) (now : WorldState)
+        → IsKept start → AreBefore (ends_of start.air) places → IsRound places outset ends now → now.lost ≡ false
+        → IsStillWorld start outset → EachNode HasHeardAll outset → IsStillWorld start now }
 {}
 
 /// And from a poised world on nothing goes up: each round keeps each link up just where it was, and all that is sent is sent on bearers that are mended.
 /// (This project's profile.)
 pub fn a_poised_world_stays_calm()
-    ensures begins { (start : WorldState) → IsKept start → IsPoised start → start.lost ≡ false → IsCalmWorld start start }
-    ensures round { (start : WorldState) (places : Places) (outset : WorldState) (ends : Places) (now : WorldState) → IsKept start
-        → IsPoised start → AreBefore (ends_of start.air) places → IsRound places outset ends now → now.lost ≡ false
-        → IsCalmWorld start outset → EachNode HasHeardAll outset → IsCalmWorld start now }
+    ensures begins { (start : WorldState) → IsKept start → IsPoised start → start.lost ≡ false
+        → IsCalmWorld start start }
+    ensures round { (start : WorldState) (places : Places) (outset : WorldState) (ends : Places) (now : WorldState)
+        → IsKept start → IsPoised start → AreBefore (ends_of start.air) places → IsRound places outset ends now
+        → now.lost ≡ false → IsCalmWorld start outset → EachNode HasHeardAll outset → IsCalmWorld start now }
 {}
 
 /// In a poised world each node has heard all others in the last three ticks. And each round of a call that began in one leaves each node so: what each node
@@ -134,8 +140,8 @@ pub fn a_poised_world_hears_itself()
     ensures begins { (w : WorldState) → IsKept w → IsPoised w → EachNode HasHeardAll w }
     ensures round { (start : WorldState) (places : Places) (outset : WorldState) (ends : Places) (now : WorldState)
         → IsRound places outset ends now → BeginsRound start places outset now → EachNode HasHeardAll now }
-    ensures call { (start : WorldState) (rounds : ℕ) (places : Places) (now : WorldState) → IsKept start → IsPoised start
-        → Rounds start rounds places now → now.lost ≡ false → StandsCalm start places now }
+    ensures call { (start : WorldState) (rounds : ℕ) (places : Places) (now : WorldState) → IsKept start
+        → IsPoised start → Rounds start rounds places now → now.lost ≡ false → StandsCalm start places now }
     ensures again { (start : WorldState) (places : Places) (now : WorldState) → IsKept start → IsPoised start
         → StandsCalm start places now → StaysPoised start now }
 {}
@@ -146,14 +152,15 @@ pub fn a_poised_world_hears_itself()
 pub fn links_that_come_up_are_answered()
     ensures begins { (start : WorldState) → IsKept start → IsDownWorld start → start.lost ≡ false
         → IsRisingWorld start 0 start × AreUpsAnswered start start }
-    ensures round { (start : WorldState) (most : ℕ) (places : Places) (outset : WorldState) (ends : Places) (now : WorldState)
-        → IsKept start → most ≤ 3 → AreBefore (ends_of start.air) places → IsRound places outset ends now → now.lost ≡ false
-        → IsRisingWorld start most outset → AreUpsAnswered start outset → IsRisingWorld start (most + 1) now × AreUpsAnswered start now }
+    ensures round { (start : WorldState) (most : ℕ) (places : Places) (outset : WorldState) (ends : Places)
+        (now : WorldState) → IsKept start → most ≤ 3 → AreBefore (ends_of start.air) places
+        → IsRound places outset ends now → now.lost ≡ false → IsRisingWorld start most outset
+        → AreUpsAnswered start outset → IsRisingWorld start (most + 1) now × AreUpsAnswered start now }
 {}
 
 /// A world in which no link is up or held is poised after four rounds or more in which no frame is lost: each two nodes stand on each bearer that is
 /// mended at both. (This project's profile.)
 pub fn a_new_world_comes_up()
-    ensures { (start : WorldState) (rounds : ℕ) (places : Places) (now : WorldState) → 4 ≤ rounds → IsKept start → IsDownWorld start
-        → Rounds start rounds places now → now.lost ≡ false → IsPoised now }
+    ensures { (start : WorldState) (rounds : ℕ) (places : Places) (now : WorldState) → 4 ≤ rounds → IsKept start
+        → IsDownWorld start → Rounds start rounds places now → now.lost ≡ false → IsPoised now }
 {}

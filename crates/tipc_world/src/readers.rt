@@ -104,6 +104,10 @@ impl<P: Pick> World<P> {
     }
 
     /// The link ends of a node, in order of the peers.
+    ///
+    /// # Errors
+    ///
+    /// Where memory runs out.
     pub fn links(&self, alloc: Global, n: u8) -> Result<Sequence<PeerLinks>, NoMemory>
         ensures { IfOk result (λ links. links ≡ links_of self.now.state.members n) }
     {
@@ -111,6 +115,10 @@ impl<P: Pick> World<P> {
     }
 
     /// The publications of zone and cluster scope that a node knows, in order of type, bounds, node, port and key.
+    ///
+    /// # Errors
+    ///
+    /// Where memory runs out.
     pub fn table(&self, alloc: Global, n: u8) -> Result<List, NoMemory>
         ensures { IfOk result (λ ps. ps ≡ table_of self.now.state.members n) }
     {

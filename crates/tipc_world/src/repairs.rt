@@ -16,9 +16,9 @@ ghost use Rattle.tipc_world.specs.States.{WorldState};
 /// rounds release the first packet that isn't acknowledged, and four for each packet of a window whatever was numbered. (TIPC 2.0 draft: gaps in STATE
 /// messages; the rounds are this project's profile.)
 pub fn a_lost_packet_comes_in_four_rounds()
-    ensures round { (start : WorldState) (places : Places) (outset : WorldState) (ends : Places) (now : WorldState) (a b bearer position : ℕ)
-        → IsRound places outset ends now → BeginsRound start places outset now → WasUp start a b bearer
-        → RoundBrings start places outset ends now a b bearer position }
+    ensures round { (start : WorldState) (places : Places) (outset : WorldState) (ends : Places) (now : WorldState)
+        (a b bearer position : ℕ) → IsRound places outset ends now → BeginsRound start places outset now
+        → WasUp start a b bearer → RoundBrings start places outset ends now a b bearer position }
     ensures release { FourRoundsRelease }
     ensures window { WindowsAreReleased }
 {}
@@ -29,9 +29,9 @@ pub fn a_lost_packet_comes_in_four_rounds()
 /// acknowledged by all, and four for each packet of a window whatever has a number. (TIPC 2.0 draft: broadcast fields of STATE messages; the rounds are
 /// this project's profile.)
 pub fn a_lost_broadcast_comes_in_four_rounds()
-    ensures round { (start : WorldState) (places : Places) (outset : WorldState) (ends : Places) (now : WorldState) (a b bearer position : ℕ)
-        → IsRound places outset ends now → BeginsRound start places outset now → WasUp start a b bearer
-        → RoundCasts places outset ends now a b bearer position }
+    ensures round { (start : WorldState) (places : Places) (outset : WorldState) (ends : Places) (now : WorldState)
+        (a b bearer position : ℕ) → IsRound places outset ends now → BeginsRound start places outset now
+        → WasUp start a b bearer → RoundCasts places outset ends now a b bearer position }
     ensures release { FourRoundsReleaseCasts }
     ensures window { CastWindowsAreReleased }
 {}
@@ -40,7 +40,8 @@ pub fn a_lost_broadcast_comes_in_four_rounds()
 /// accepted grew by no more than the weight of what was delivered. (This project's profile.)
 pub fn no_more_is_under_way()
     ensures { (start : WorldState) (rounds : ℕ) (places : Places) (now : WorldState)
-        → IsKept start → IsPoised start → Rounds start rounds places now → now.lost ≡ false → NoMoreIsUnderWay start now }
+        → IsKept start → IsPoised start → Rounds start rounds places now → now.lost ≡ false
+        → NoMoreIsUnderWay start now }
 {}
 
 /// Where a packet isn't acknowledged on a link that was up when such a call began, four rounds leave less under way; and so they do where a packet of a

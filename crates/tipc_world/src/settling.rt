@@ -350,8 +350,8 @@ impl<P: Pick> World<P> {
             → AllIsAcknowledged self.old.state self.new.state) }
         ensures broadcast { OnOk result (IsPoised self.old.state → 200 ≤ rounds
             → AllCastsAreReleased self.old.state self.new.state) }
-        ensures quiet { IfOk result (λ settled. IsPoised self.old.state → 16 + 16 * load_under_way self.old.state ≤ rounds
-            → ComesToRest settled self.new.state) }
+        ensures quiet { IfOk result (λ settled. IsPoised self.old.state
+            → 16 + 16 * load_under_way self.old.state ≤ rounds → ComesToRest settled self.new.state) }
     {
         self.kept();
         let settled = self.go_round(alloc, rounds);

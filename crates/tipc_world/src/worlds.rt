@@ -55,7 +55,8 @@ impl<P: Pick> Model for World<P> {
       chooser = w.chooser;
     } };
 
-    ghost invariant = { λ w. IsSteady w.replay.members w.events w.stamps × AreOrderly P.gives w.replay.members w.stamps w.chooser };
+    ghost invariant = { λ w. IsSteady w.replay.members w.events w.stamps ×
+        AreOrderly P.gives w.replay.members w.stamps w.chooser };
 }
 
 /// Whether one more event may happen to the nodes.

@@ -5,12 +5,13 @@ use Rattle.std.specs.List.{find}
 use Rattle.std.proofs.lemmas.Bool.Decides.{nat_tests}
 use Rattle.std.proofs.lemmas.List.Elements.{All-head, All-tail}
 use Rattle.std.proofs.lemmas.Option.{same_Some}
+use Rattle.tipc_types.specs.Limits.{window_size}
 use Rattle.tipc_types.specs.Position.{distance_of, number_of}
-use Rattle.tipc_send_window.specs.Sending.{acked_of, IsSending}
+use Rattle.tipc_send_window.specs.Sending.{acked_of, IsSending, room}
 use Rattle.tipc_broadcast.specs.declared.contacts.Contact.{Contact}
 use Rattle.tipc_broadcast.specs.Contacts.{acknowledged_to, contact_with, is_with, IsContact}
-use Rattle.tipc_broadcast.specs.Casting.{accepted, Casting, flushed, IsCasting, room, settled}
-use Rattle.tipc_broadcast_law.specs.Groups.{Group, length_now, Member, numbered_now, window}
+use Rattle.tipc_broadcast.specs.Casting.{accepted, Casting, flushed, IsCasting, settled}
+use Rattle.tipc_broadcast_law.specs.Groups.{Group, length_now, Member, numbered_now}
 use Rattle.tipc_broadcast_law.specs.Events.{go_on, none, numbered_to, numbers, Runs}
 use Rattle.tipc_broadcast_law.proofs.Places.{put_other, put_same, same_or_not}
 use Rattle.tipc_broadcast_law.specs.Steps.{Becomes, Casts, IsSeen, Leads, line_of, TellsPlace}
@@ -26,7 +27,7 @@ pub record Numbered (g : Group) (n : ℕ) : Type 0 where
 pub still : (g : Group) → Becomes g (line_of g) g.members g
 still g = record { boot = refl; line_now = refl; lines = λ f other. refl; numbered = λ f other. refl; each = λ m. refl }
 
-number_all : (n : ℕ) (g : Group) → numbered_now g.caster + n ≤ length_now g.caster → ((m c : ℕ) → (g.members m).joined ≡ Some c → numbered_now g.caster + n ≤ (g.members m).acked + window) → Numbered g n
+number_all : (n : ℕ) (g : Group) → numbered_now g.caster + n ≤ length_now g.caster → ((m c : ℕ) → (g.members m).joined ≡ Some c → numbered_now g.caster + n ≤ (g.members m).acked + window_size) → Numbered g n
 number_all zero g within near = record { after = g; runs = none; count = omega arith; same = refl; becomes = still g }
 number_all (suc n) g within near =
     let a = g.caster in

@@ -21,10 +21,10 @@ use Rattle.tipc_header.proofs.FrameWords.{length-envelope, stamped-spelling}
 use Rattle.tipc_header.proofs.RoundTrip.{one_packet}
 use Rattle.tipc_tunnel.specs.Tunnels.{Carries, Tunnelled, may_stand_in_tunnel, tunnel_packet}
 use Rattle.tipc_tunnel.proofs.TunnelLaws.{carried_once, tunnel_fits}
-use Rattle.tipc_send_window.specs.Sending.{acked_of, kept_after, kept_of}
+use Rattle.tipc_send_window.specs.Sending.{acked_of, kept_after, kept_of, room}
 use Rattle.tipc_link.specs.Links.{LinkEnd, notice_fields}
 use Rattle.tipc_link.specs.Records.{is_changeover, is_tunnel}
-use Rattle.tipc_link.specs.Sessions.{SessionEnd, flush_frames, is_behind, packet_frame, packet_frames, repeat_frames, repeated, room, state_fields, state_frame}
+use Rattle.tipc_link.specs.Sessions.{SessionEnd, flush_frames, is_behind, packet_frame, packet_frames, repeat_frames, repeated, state_fields, state_frame}
 use Rattle.tipc_link.proofs.Standing.{waiting_fits}
 use Rattle.tipc_link.proofs.TunnelUsers.{no_tunnel}
 use Rattle.tipc_pair.specs.Runs.{IsListed, plain, tunnel}

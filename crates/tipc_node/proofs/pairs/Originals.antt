@@ -21,9 +21,9 @@ use Rattle.tipc_bundle.specs.Bundles.{Carries as Waits, IsInner as IsBundled, jo
 use Rattle.tipc_tunnel.specs.Tunnels.{IsTunnel, MayBeWrapped, Tunnelled, numbered, tunnel_packet}
 use Rattle.tipc_tunnel.proofs.InnerLaws.{numbered-none}
 use Rattle.tipc_tunnel.proofs.TunnelLaws.{one_tunnel, wrapped_tunnel}
-use Rattle.tipc_send_window.specs.Sending.{acked_of, kept_after, release_count}
+use Rattle.tipc_send_window.specs.Sending.{acked_of, kept_after, release_count, room}
 use Rattle.tipc_link.specs.Records.{is_changeover, is_tunnel}
-use Rattle.tipc_link.specs.Sessions.{Carries, Content, IsPut, MayJoin, Nothing, SessionEnd, Shows, after_acknowledgement, arrived, flushed, heard, joins, put, repeated, room, spoke, waits}
+use Rattle.tipc_link.specs.Sessions.{Carries, Content, IsPut, MayJoin, Nothing, SessionEnd, Shows, after_acknowledgement, arrived, flushed, heard, joins, put, repeated, spoke, waits}
 use Rattle.tipc_link.proofs.Repeating.{kept_count}
 use Rattle.tipc_pair.specs.Messages.{pieces_for}
 use Rattle.tipc_pair.specs.PairFacts.{IsSessionOn}

@@ -6,7 +6,7 @@ use Rattle.std.proofs.lemmas.List.{drop_all, length-take}
 use Rattle.tipc_types.specs.LinkStates.{is_up}
 use Rattle.tipc_types.specs.declared.link_words.Reply.TheVariants as reply
 use Rattle.tipc_outside.specs.declared.outgoing.Outgoing.{Outgoing}
-use Rattle.tipc_send_window.specs.Sending.{release_count}
+use Rattle.tipc_send_window.specs.Sending.{release_count, room}
 use Rattle.tipc_broadcast.specs.Casting.{Casting, IsPackedCast, booted}
 use Rattle.tipc_broadcast.proofs.Packed.{deeds_packed}
 use Rattle.tipc_journal.specs.Steps.{NodeStep}
@@ -15,7 +15,7 @@ use Rattle.tipc_link_fsm.specs.declared.changes.Change.TheVariants.{Answer, Up}
 use Rattle.tipc_link_fsm.specs.Table.{Fsm}
 use Rattle.tipc_link.specs.Links.{LinkEnd, answered_with, followed, recorded, with_fsm}
 use Rattle.tipc_link.specs.Records.{Received}
-use Rattle.tipc_link.specs.Sessions.{Carries, Content, IsPut, Nothing, SessionEnd, Shows, answered, arrived, flushed, given_up, heard, joins, put, after_acknowledgement, repeated, room, spoke, after_state, waiting_given, waits, with_broadcast, with_record}
+use Rattle.tipc_link.specs.Sessions.{Carries, Content, IsPut, Nothing, SessionEnd, Shows, answered, arrived, flushed, given_up, heard, joins, put, after_acknowledgement, repeated, spoke, after_state, waiting_given, waits, with_broadcast, with_record}
 use Rattle.tipc_pair.specs.Facing.{PairEnds, facing, with_made}
 use Rattle.tipc_node.specs.declared.neighbours.Neighbour.{Neighbour}
 use Rattle.tipc_node.specs.Nodes.{NodeState, neighbour_of, pair_with}

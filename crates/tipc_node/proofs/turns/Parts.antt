@@ -232,14 +232,6 @@ pub record IsPartway (d : Upkeep) (v : Casting) (old now : List (Option Neighbou
   pub comes : ComesOfAll v (part_all d 0 v (take number old)) now w start event
   pub joined : (b : ℕ) → number ≤ b → b ≤ 32 → has_joined (node_word b) w.contacts ≡ is_met (slice_index_or old b None)
 
-none_made : (box : Out) → Gains box box (made_all (None ∷ []))
-unfolding states_all numbered_all
-none_made box = gains_none box
-
-none_after : after_all (None ∷ []) ≡ None ∷ []
-unfolding after_all
-none_after = refl
-
 -- the node itself is no neighbour
 first_comes : (v : Casting) (event : Parting) → event.inside.items ≡ [] → ComesOfAll v (None ∷ []) (None ∷ []) v event event
 unfolding after_all entries_all deeds_all states_all numbered_all

@@ -207,22 +207,6 @@ goes_turned x y cs two h = record {
   two = h.two;
 }
 
-pub goes_facing : (bearer : ℕ) (x y : PairEnds) (cs : List Transition) → IsApt x → (IsApt (facing bearer x) → Goes (facing bearer x) y cs) → Goes x (facing x.bearer y) cs
-goes_facing bearer x y cs apt goes = by (x.bearer == bearer) refl
-  where
-    by : (b : Bool) → (x.bearer == bearer) ≡ b → Goes x (facing x.bearer y) cs
-    by true same =
-        let here : facing bearer x ≡ x = facing_near bearer x (grind (arith, nat_tests, same)) in
-        let h : Goes x y cs = subst (λ z. Goes z y cs) here (goes (subst IsApt (sym here) apt)) in
-        subst (λ z. Goes x z cs) (sym (facing_near x.bearer y h.bearer)) h
-    by false differs =
-        let there : facing bearer x ≡ turned x = facing_far bearer x differs in
-        let h : Goes (turned x) y cs = subst (λ z. Goes z y cs) there (goes (subst IsApt (sym there) (turned_apt x apt))) in
-        let on : y.bearer ≡ other x.bearer = h.bearer in
-        let two = apt.two in
-        let apart : (y.bearer == x.bearer) ≡ false = ap (λ n. n == x.bearer) on ∙ (let away : (other x.bearer == x.bearer) ≡ false = grind (arith, nat_tests, two) in away) in
-        subst (λ z. Goes x z cs) (sym (facing_far x.bearer y apart)) (goes_turned x y cs two h)
-
 -- ---- by bearers
 
 -- a link on neither bearer isn't there

@@ -55,10 +55,6 @@ facing_bearer bearer x one two = elim (x.bearer == bearer) as (λ b. (x.bearer =
   | false ↦ λ differs. grind (arith, nat_tests, differs, one, two)
 ] refl
 
-pub facing_own : (bearer : ℕ) (x : PairEnds) → (facing bearer x).own ≡ x.own
-unfolding facing
-facing_own bearer x = elim (x.bearer == bearer) as (λ b. (if b then x else turned x).own ≡ x.own) [ true ↦ refl | false ↦ refl ]
-
 pub facing_peer : (bearer : ℕ) (x : PairEnds) → (facing bearer x).peer ≡ x.peer
 unfolding facing
 facing_peer bearer x = elim (x.bearer == bearer) as (λ b. (if b then x else turned x).peer ≡ x.peer) [ true ↦ refl | false ↦ refl ]

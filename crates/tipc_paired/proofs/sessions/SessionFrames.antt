@@ -4,9 +4,9 @@ use Rattle.std.specs.Prelude.{slice_get}
 use Rattle.std.proofs.lemmas.List.{length-take-le}
 use Rattle.tipc_types.specs.Position.{number_of}
 use Rattle.tipc_types.specs.declared.packet_lists.Kept.{Kept}
-use Rattle.tipc_send_window.specs.Sending.{Sending, acked_of, kept_after, kept_of}
+use Rattle.tipc_send_window.specs.Sending.{Sending, acked_of, kept_after, kept_of, advanced, room}
 use Rattle.tipc_link.specs.Direction.{IsDirection}
-use Rattle.tipc_link.specs.Sessions.{SessionEnd, advanced, flush_frames, flushed, moving, packet_frame, repeat_frames, repeated, room}
+use Rattle.tipc_link.specs.Sessions.{SessionEnd, flush_frames, flushed, moving, packet_frame, repeat_frames, repeated}
 use Rattle.tipc_link.proofs.Directions.{repeated_from, slice_get-behind}
 use Rattle.tipc_link.proofs.LinkLaw.{Each}
 use Rattle.tipc_paired.proofs.wires.Frames.{packet_frames-at}

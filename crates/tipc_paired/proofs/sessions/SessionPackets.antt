@@ -6,7 +6,8 @@ use Rattle.tipc_types.specs.declared.packet_lists.Taken.{Taken}
 use Rattle.tipc_header.specs.Spelling.{Fields}
 use Rattle.tipc_link.specs.Direction.{IsDirection}
 use Rattle.tipc_link.specs.Links.{LinkEnd, with_session}
-use Rattle.tipc_link.specs.Sessions.{Carries, SessionEnd, brought, content_of, due_with, flushed, moving, room, took}
+use Rattle.tipc_link.specs.Sessions.{Carries, SessionEnd, brought, content_of, due_with, flushed, moving, took}
+use Rattle.tipc_send_window.specs.Sending.{room}
 use Rattle.tipc_link.proofs.Directions.{moves_up, taken_recently}
 use Rattle.tipc_link.proofs.LinkLaw.{Each, Each-append}
 use Rattle.tipc_link.proofs.Receivings.{received}

@@ -85,7 +85,8 @@ fn run_nodes<
     requires choosers { (length choosers.items ≡ plan.now.nodes) × All (λ chooser. chooser.turn ≡ 0) choosers.items }
     requires bearers { length bearers.items ≡ 2 * plan.now.nodes }
     requires clocks { length clocks.items ≡ plan.now.nodes }
-    ensures { IfOk result (λ left. IsLeftByRun B.tried B.given B.faults plan.now bearers.items left.nodes.items left.failed left.bearers.items) }
+    ensures { IfOk result (λ left. IsLeftByRun B.tried B.given B.faults plan.now bearers.items left.nodes.items
+        left.failed left.bearers.items) }
 {
     let seats = u32::from(plan.nodes) * (u32::from(plan.callers) + 1);
     let (stamps, seats) = Stamps::new(alloc, seats)?;

@@ -6,18 +6,18 @@ ghost use Rattle.tipc_sim.specs.LiveReports.{counts_report, live_report, node_li
 use crate::live::counts::{accepted_in, answered_in, delivered_in};
 use std::alloc::Global;
 use tipc_node_lock::LockedNode;
-use tipc_report::{Verdict, print_counts, print_plan, print_verdict};
+use tipc_report::{Verdict, number_in, print_counts, print_plan, print_verdict};
 use tipc_types::NoMemory;
 use tipc_work::LivePlan;
 
-/// Appends the line of a node. An address has the node's number in its low 12 bits.
+/// Appends the line of a node.
 fn print_node<P>(locked: &LockedNode<P>, into: &mut Vec<u8>) -> Result<(), NoMemory>
     ensures ok { OnOk result (into.new.items ≡ into.old.items ++ node_line locked.now) }
     ensures err { OnErr result (into.new.items ≡ into.old.items) }
 {
     let journal = locked.node().journal();
     print_counts(
-        locked.node().own().word % 4096,
+        number_in(locked.node().own().word),
         accepted_in(journal),
         delivered_in(journal),
         answered_in(journal),

@@ -92,7 +92,8 @@ fn run_plan<
     requires empty { gathered.old ≡ nothing_gathered }
     ensures came { HasEnded result → ComesTo B.tried B.given B.faults P.gives plan.now bearers.items gathered.new result
         (K.contents sink.old) (K.contents sink.new) }
-    ensures memory { result ≡ Status.NoMemory → StopsShort P.gives plan.now gathered.new (K.contents sink.old) (K.contents sink.new) }
+    ensures memory { result ≡ Status.NoMemory → StopsShort P.gives plan.now gathered.new (K.contents sink.old)
+        (K.contents sink.new) }
     ensures write { result ≡ Status.WriteFault → Rose (K.faults sink.old) (K.faults sink.new) ⊎
         Rose (K.stalls sink.old) (K.stalls sink.new) }
     ensures fault { result ≡ Status.BearerFault → HasFailed B.faults plan.now bearers.items gathered.new.bearers }
@@ -143,7 +144,8 @@ pub fn run_live<
 
     // What the nodes, their passes and the bearers show behind a run, what was found of that, and what was written.
     ensures came { HasEnded result → IfSome (live_plan (map string_bytes words.now)) (λ plan.
-        ComesTo B.tried B.given B.faults P.gives plan bearers.items gathered.new result (K.contents sink.old) (K.contents sink.new)) }
+        ComesTo B.tried B.given B.faults P.gives plan bearers.items gathered.new result (K.contents sink.old)
+        (K.contents sink.new)) }
     ensures memory { result ≡ Status.NoMemory → IfSome (live_plan (map string_bytes words.now)) (λ plan.
         StopsShort P.gives plan gathered.new (K.contents sink.old) (K.contents sink.new)) }
 

@@ -25,7 +25,8 @@ const BASE: u16 = 40_000;
 
 /// A chooser for each node, which takes the matches in turn.
 fn choosers(alloc: Global, nodes: u8) -> Result<Vec<Chooser<RoundRobin>>, NoMemory>
-    ensures { IfOk result (λ choosers. (length choosers.items ≡ nodes) × All (λ chooser. chooser.turn ≡ 0) choosers.items) }
+    ensures { IfOk result (λ choosers. (length choosers.items ≡ nodes) ×
+        All (λ chooser. chooser.turn ≡ 0) choosers.items) }
 {
     let mut choosers = Vec::with_capacity(alloc, usize::from(nodes))?;
     for _ in 0..nodes {

@@ -12,7 +12,6 @@ use Rattle.tipc_paired.specs.Views.{Frame, IsApart, Node, View, epoch_in, es_of,
 use Rattle.tipc_two_nodes.specs.Carriages.{Numbers}
 use Rattle.tipc_two_nodes.specs.Known.{ContactTellsPresent, NothingHigherIsKnown, PresentTellsContact}
 use Rattle.tipc_two_nodes.specs.Numbers.{AreNumbers}
-use Rattle.tipc_two_nodes.specs.Sights.{AreSeen, Sight}
 use Rattle.tipc_two_nodes.proofs.calls.PairViews.{or_false}
 use Rattle.tipc_two_nodes.proofs.deeds.Pairs.{apart_of}
 use Rattle.tipc_two_nodes.proofs.sights.Ordered.{seen_no_higher}
@@ -84,9 +83,6 @@ present_of_contact x y n b epoch e h are apart same is peer = by (y.wires b).end
         (d, refl, omega (arith, first, now, low, high, es))
 
 -- ---- as a world tells of them
-
-nodes_seen : (v w : Sight) (h : AreSeen v w) → (h.here.view.node ≡ v.node) × (h.there.view.node ≡ w.node)
-nodes_seen v w h = (h.seen_here.node, h.seen_there.node)
 
 pub nothing_higher_is_known : NothingHigherIsKnown
 nothing_higher_is_known v w h =

@@ -3,7 +3,7 @@
 use Rattle.std.specs.Prelude.{◌≡◌, ◌<◌, ◌≤◌, ◌==◌, ℕ, ◌+◌, ◌^◌, true, false, List, [], ◌∷◌, Option, Some, None, drop, length, slice_get, take, if◌then◌else◌}
 use Rattle.tipc_types.specs.declared.link_words.BroadcastState.{BroadcastState}
 use Rattle.tipc_types.specs.declared.packet_lists.Taken.{Taken}
-use Rattle.tipc_types.specs.Limits.{most_age}
+use Rattle.tipc_types.specs.Limits.{most_age, window_size}
 use Rattle.tipc_header.specs.declared.packet.ChangeoverType.{ChangeoverType}
 use Rattle.tipc_header.specs.declared.packet.ChangeoverType.TheVariants as kind
 use Rattle.tipc_header.specs.declared.packet.Header.{Header}
@@ -41,7 +41,7 @@ pub record Reaches (x y : View) (bearer es er : ℕ) (p : Fields) : Type 0 where
   pub fits : Fits p
   pub bytes : frame.bytes ≡ frame_of es er (spelling p)
   pub own_fresh : is_traffic p.header ≡ true → length ((x.wires bearer).line er) ≤ frame.peer_numbered + most_age
-  pub peer_fresh : is_traffic p.header ≡ true → length ((y.wires bearer).line es) ≤ frame.numbered + 30050
+  pub peer_fresh : is_traffic p.header ≡ true → length ((y.wires bearer).line es) ≤ frame.numbered + (most_age + window_size)
 
 -- ---- the near link
 

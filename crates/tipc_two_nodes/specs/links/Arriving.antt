@@ -1,5 +1,6 @@
 -- What an arrival at a pair makes of its receiving records, and which packets come of it.
 use Rattle.std.specs.Prelude.{◌≡◌, ◌<◌, ◌≤◌, ◌⊎◌, ℕ, ◌+◌, false, true, List, [], ◌++◌, Some, is_some, length, slice_get, take}
+use Rattle.tipc_types.specs.Limits.{most_age, window_size}
 use Rattle.tipc_types.specs.declared.link_words.BroadcastState.{BroadcastState}
 use Rattle.tipc_types.specs.declared.link_words.Why.{Why}
 use Rattle.tipc_header.specs.Spelling.{Fields}
@@ -30,7 +31,7 @@ use Rattle.tipc_two_nodes.specs.links.Traffic.{Lines, Traffic, epoch_of}
 pub record IsFramed (line : List (List ℕ)) (number : ℕ) (packet : List ℕ) : Type 0 where
   pub numbered : ℕ
   pub so_far : numbered ≤ length line
-  pub fresh : length line ≤ numbered + 30050
+  pub fresh : length line ≤ numbered + (most_age + window_size)
   pub carried : IsCarried line numbered number packet
   pub bytes : 1 ≤ length packet
 

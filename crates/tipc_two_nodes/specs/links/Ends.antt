@@ -2,9 +2,9 @@
 use Rattle.std.specs.Prelude.{◌≡◌, ◌≤◌, ℕ, ◌+◌, ◌-◌, true, List, [], ◌∷◌, Option, Some, length}
 use Rattle.tipc_types.specs.LinkStates.{is_up}
 use Rattle.tipc_types.specs.Limits.{window_size}
-use Rattle.tipc_send_window.specs.Sending.{Sending, acknowledged, fresh}
+use Rattle.tipc_send_window.specs.Sending.{Sending, acknowledged, fresh, advanced, room}
 use Rattle.tipc_link.specs.Links.{LinkEnd}
-use Rattle.tipc_link.specs.Sessions.{SessionEnd, advanced, moving, put, room}
+use Rattle.tipc_link.specs.Sessions.{SessionEnd, moving, put}
 use Rattle.tipc_pair.specs.Facing.{PairEnds}
 use Rattle.tipc_pair.specs.PairArrivals.{restored}
 use Rattle.tipc_pair.specs.Runs.{IsListed}

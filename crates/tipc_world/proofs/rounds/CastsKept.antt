@@ -13,9 +13,9 @@ use Rattle.tipc_outside.specs.declared.outgoing.Outgoing.{Outgoing}
 use Rattle.tipc_header.specs.declared.frames.FrameKind.{FrameKind}
 use Rattle.tipc_header.specs.declared.frames.FrameKind.TheVariants.{Casts, Finds, Links}
 use Rattle.tipc_header.specs.Frames.{kind_in}
-use Rattle.tipc_send_window.specs.Sending.{Sending, passed_over}
+use Rattle.tipc_send_window.specs.Sending.{Sending, passed_over, advanced, room}
 use Rattle.tipc_broadcast.specs.declared.contacts.Contact.{Contact}
-use Rattle.tipc_broadcast.specs.Casting.{Casting, accepted, advanced, answered, credited, flushed, informed, left_with, moved_up, room, settled, stating, with_contacts, with_sending}
+use Rattle.tipc_broadcast.specs.Casting.{Casting, accepted, answered, credited, flushed, informed, left_with, moved_up, settled, stating, with_contacts, with_sending}
 use Rattle.tipc_broadcast.specs.Contacts.{without}
 use Rattle.tipc_broadcast.specs.Deeds.{CastDeed, after_deed, after_deeds, sends_nothing}
 use Rattle.tipc_pair.specs.declared.transitions.Transition.{Transition}

@@ -129,11 +129,6 @@ so_far K start rounds places now each made whole h = rounds_keep (λ done. SoFar
       within = same_places (ends_of start.air);
     })
 
--- What each event of a call that settles keeps, the call keeps, where no frame is lost. An event may rest on all that goes on from the call's begin; the
--- frames that arrive stand behind those of the begin.
-pub settles_keep : (K : WorldState → Type 0) (start : WorldState) (rounds : ℕ) (places : Places) (now : WorldState) → StepKeeps start (ends_of start.air) K → Rounds start rounds places now → now.lost ≡ false → K start → Stands start K now
-settles_keep K start rounds places now each made whole h = (so_far K start rounds places now each made whole h).stands
-
 -- a world goes on by rounds
 pub settling_goes_on : (start : WorldState) (rounds : ℕ) (places : Places) (now : WorldState) → Rounds start rounds places now → now.lost ≡ false → GoesByRounds start places now
 settling_goes_on start rounds places now made whole =

@@ -5,13 +5,13 @@ use Rattle.std.proofs.lemmas.List.{drop_all, length-drop, length-take}
 use Rattle.tipc_types.specs.LinkStates.{is_up}
 use Rattle.tipc_types.specs.declared.link_words.BroadcastState.{BroadcastState}
 use Rattle.tipc_header.specs.Spelling.{Fields}
-use Rattle.tipc_send_window.specs.Sending.{Sending, acknowledged, fresh, release_count}
+use Rattle.tipc_send_window.specs.Sending.{Sending, acknowledged, fresh, release_count, advanced, room}
 use Rattle.tipc_link_fsm.specs.declared.changes.Change.{Change}
 use Rattle.tipc_link_fsm.specs.declared.changes.Change.TheVariants.{Answer, Down, Ignore, Stay, Up as GoesUp}
 use Rattle.tipc_link_fsm.specs.Table.{Fsm, Outcome, is_last, is_reset_reset, is_session, on_traffic}
 use Rattle.tipc_link_fsm.proofs.Moves.{cases_on}
 use Rattle.tipc_link.specs.Links.{LinkEnd, after, arrival_end, followed, heard_end, is_down, is_heard, is_taken, is_traffic, session_of, with_fsm}
-use Rattle.tipc_link.specs.Sessions.{Carries, Content, Nothing, SessionEnd, Shows, advanced, arrived, content_of, flushed, moving, after_acknowledgement, repeated, room, spoke}
+use Rattle.tipc_link.specs.Sessions.{Carries, Content, Nothing, SessionEnd, Shows, arrived, content_of, flushed, moving, after_acknowledgement, repeated, spoke}
 use Rattle.tipc_pair.specs.Changeovers.{following, gone_up}
 use Rattle.tipc_pair.specs.Courses.{going_on}
 use Rattle.tipc_pair.specs.Facing.{PairEnds, with_near}

@@ -6,7 +6,8 @@ use Rattle.tipc_outside.specs.declared.outgoing.Outgoing.{Outgoing}
 use Rattle.tipc_bundle.specs.Bundles.{IsInner, joined}
 use Rattle.tipc_link.specs.Links.{LinkEnd, with_session}
 use Rattle.tipc_link.specs.Records.{is_tunnel}
-use Rattle.tipc_link.specs.Sessions.{IsPut, MayJoin, SessionEnd, advanced, flushed, joins, last_of, moving, put, room, waits, with_last as with_last_packet}
+use Rattle.tipc_link.specs.Sessions.{IsPut, MayJoin, SessionEnd, flushed, joins, last_of, moving, put, waits, with_last as with_last_packet}
+use Rattle.tipc_send_window.specs.Sending.{advanced, room}
 use Rattle.tipc_pair.specs.Facing.{PairEnds, active_of, facing, is_up_at, with_near, turned as turned_pair}
 use Rattle.tipc_pair.specs.PairCalls.{Puts, SendsWithin}
 use Rattle.tipc_pair.proofs.Facings.{facing_far, facing_near}

@@ -6,12 +6,12 @@ use Rattle.tipc_types.specs.LinkStates.{is_up}
 use Rattle.tipc_types.specs.declared.link_words.LinkState.{LinkState}
 use Rattle.tipc_types.specs.declared.link_words.Reply.TheVariants as reply
 use Rattle.tipc_header.specs.declared.packet.ChangeoverType.TheVariants.{Duplicate, Original}
-use Rattle.tipc_send_window.specs.Sending.{Sending, emptied, fresh, offered, without_waiting}
+use Rattle.tipc_send_window.specs.Sending.{Sending, emptied, fresh, offered, without_waiting, advanced, room}
 use Rattle.tipc_link_fsm.specs.declared.changes.Change.{Change}
 use Rattle.tipc_link_fsm.specs.declared.changes.Change.TheVariants.{Answer, Up as GoesUp}
 use Rattle.tipc_link_fsm.specs.Table.{Fsm, Outcome, is_held}
 use Rattle.tipc_link.specs.Links.{LinkEnd, after, followed, with_fsm}
-use Rattle.tipc_link.specs.Sessions.{SessionEnd, advanced, flushed, put, room, after_state}
+use Rattle.tipc_link.specs.Sessions.{SessionEnd, flushed, put, after_state}
 use Rattle.tipc_pair.specs.Changeovers.{contact_begins, contact_ends, fail_over, gone_up, parted_end, switch}
 use Rattle.tipc_pair.specs.Courses.{rests}
 use Rattle.tipc_pair.specs.Facing.{PairEnds, in_contact, is_up_at, with_near}

@@ -6,11 +6,11 @@ use Rattle.std.proofs.lemmas.Bool.{cases_Bool}
 use Rattle.std.proofs.lemmas.Bool.Decides.{nat_tests}
 use Rattle.std.proofs.lemmas.List.{length-drop}
 use Rattle.std.proofs.lemmas.List.Sums.{sum_by-cons}
-use Rattle.tipc_send_window.specs.Sending.{Sending, acknowledged, offered, release_count, swapped}
+use Rattle.tipc_send_window.specs.Sending.{Sending, acknowledged, offered, release_count, swapped, advanced, room}
 use Rattle.tipc_link_fsm.specs.Table.{is_held, release}
 use Rattle.tipc_link.specs.Links.{LinkEnd, tunnels_of, with_fsm, with_session}
 use Rattle.tipc_link.specs.Records.{is_tunnel}
-use Rattle.tipc_link.specs.Sessions.{with_last as with_last_packet, Carries, Content, Nothing, SessionEnd, Shows, advanced, arrived, flushed, last_of, moving, put, after_acknowledgement, repeated, room, spoke}
+use Rattle.tipc_link.specs.Sessions.{with_last as with_last_packet, Carries, Content, Nothing, SessionEnd, Shows, arrived, flushed, last_of, moving, put, after_acknowledgement, repeated, spoke}
 use Rattle.tipc_pair.specs.Changeovers.{is_clear, release_near}
 use Rattle.tipc_pair.specs.Facing.{PairEnds, with_near}
 use Rattle.tipc_changeover.specs.Links.{leads, Bearer, First, Held, Reset, State, Up}

@@ -2,14 +2,13 @@
 use Rattle.std.proofs.Common.{◌≡◌, ℕ, zero, suc, ◌+◌, ◌<◌, ◌≤◌, ◌==◌, Bool, true, false, if◌then◌else◌, List, [], ◌∷◌, ◌++◌, length, take, drop, refl, sym, ap, ◌∙◌, subst, arith, append_assoc, append-nil}
 use Rattle.std.proofs.Math.Path.{fun_ext}
 use Rattle.std.proofs.lemmas.List.{drop-append-le, length-append}
-use Rattle.tipc_send_window.specs.Sending.{Sending, moved}
+use Rattle.tipc_send_window.specs.Sending.{Sending, moved, advanced}
 use Rattle.tipc_changeover.specs.Slots.{LinkSlot}
 use Rattle.tipc_changeover.specs.Links.{Bearer, Sender, State, Up}
 use Rattle.tipc_changeover.specs.Events.{acted, with_number, MayAct, Number}
 use Rattle.tipc_two_nodes.specs.links.Traffic.{Lines, Traffic, with_more}
 use Rattle.tipc_two_nodes.specs.links.Packets.{AreFor, IsFor}
 use Rattle.tipc_two_nodes.specs.links.Sending.{IsQueue, SendingEnds, StandFor, beside}
-use Rattle.tipc_link.specs.Sessions.{advanced}
 use Rattle.tipc_two_nodes.specs.links.Following.{Become, stays}
 use Rattle.tipc_two_nodes.specs.links.Steps.{near_more, near_window}
 use Rattle.tipc_two_nodes.proofs.links.sender.Lists.{are_length, are_map}

@@ -4,9 +4,9 @@ use Rattle.std.proofs.Common.{◌≡◌, ℕ, ◌+◌, ◌-◌, ◌≤◌, true,
 use Rattle.tipc_types.specs.LinkStates.{is_up}
 use Rattle.tipc_types.specs.declared.link_words.OldSession.{OldSession}
 use Rattle.tipc_header.specs.declared.packet.ChangeoverType.TheVariants.{Duplicate, Original}
-use Rattle.tipc_send_window.specs.Sending.{Sending, emptied, fresh, offered, without_waiting}
+use Rattle.tipc_send_window.specs.Sending.{Sending, emptied, fresh, offered, without_waiting, advanced, room}
 use Rattle.tipc_link.specs.Links.{LinkEnd}
-use Rattle.tipc_link.specs.Sessions.{SessionEnd, advanced, flushed, put, room}
+use Rattle.tipc_link.specs.Sessions.{SessionEnd, flushed, put}
 use Rattle.tipc_pair.specs.Changeovers.{fail_over, switch}
 use Rattle.tipc_pair.specs.Facing.{PairEnds, with_near}
 use Rattle.tipc_pair.specs.Runs.{left_by, old_of, taken_over}

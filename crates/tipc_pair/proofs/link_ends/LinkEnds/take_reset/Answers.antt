@@ -15,6 +15,6 @@ returns-then-not-held c =
     let d = c.give_reset-then-not-held.new.event in
     let outcome = c.in_ok-give_reset.field-0.1 in
     let down : is_down c.in_ok-change.change ≡ true = sym c.is_down.ensures ∙ c.if-is_down.true in
-    subst (λ (h : Heard). IsHeardAs h last a d outcome) (sym (reset_again_is c.args.es c.args.shown x held c.in_ok-change.change c.far_is_up-held.ensures c.if-not-held.true c.in_ok-change.ensures.change down))
-    (does_behind (reset_given c.args.es held c.args.shown x x.near).course (λ (y : PairEnds). reset_given c.args.es false c.args.shown y y.near) one last a c.give_reset.new.event d outcome
+    subst (λ (h : Heard). IsHeardAs h last a d outcome) (sym (reset_again_is c.args.sender_epoch c.args.shown x held c.in_ok-change.change c.far_is_up-held.ensures c.if-not-held.true c.in_ok-change.ensures.change down))
+    (does_behind (reset_given c.args.sender_epoch held c.args.shown x x.near).course (λ (y : PairEnds). reset_given c.args.sender_epoch false c.args.shown y y.near) one last a c.give_reset.new.event d outcome
     c.in_ok-change.ensures.does.pair c.in_ok-change.ensures.does.told c.in_ok-give_reset.ensures.does)

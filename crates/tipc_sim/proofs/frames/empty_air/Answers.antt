@@ -5,7 +5,7 @@ use Rattle.tipc_world.specs.Settling.{arrival_asked}
 use Rattle.tipc_world.proofs.CourseLaws.{goes_joined, halts_joined}
 use Rattle.tipc_sim.proofs.CourseLaws.{goes_few}
 use Rattle.tipc_world.proofs.Continuing.{continues_same, continues_more}
-use Rattle.tipc_sim.proofs.frames.drain.Goals as goal
+use Rattle.tipc_sim.proofs.frames.empty_air.Goals as goal
 
 pub loop-place-init : goal.loop-place-init
 loop-place-init g c = record { goes = begin; continues = continues_same c.args.world.now; fewer = omega arith; few = omega arith }

@@ -2,7 +2,7 @@ use Rattle.std.proofs.Common.{◌-◌, ◌*◌, ◌≤◌, max, length}
 use Rattle.tipc_replay.specs.Skies.{air_on}
 use Rattle.tipc_world.specs.Courses.{numbers, Continues, Goes}
 use Rattle.tipc_world.specs.Settling.{arrival_asked}
-use Rattle.tipc_sim.proofs.frames.drain.Given as goal
+use Rattle.tipc_sim.proofs.frames.empty_air.Given as goal
 
 abbrev pub decreases-loop-place : goal.decreases-loop-place
 decreases-loop-place g l = max 100000 (length (air_on l.bearer l.fn.world.state.air)) - l.place
