@@ -40,10 +40,10 @@ def commands() -> tuple:
     return found[1], found[2], re.sub("(?m)^    ", "", report[0])
 
 
-def run(command: str, clone: pathlib.Path) -> subprocess.CompletedProcess:
-    """Runs a command in the clone, and tells how long it took."""
+def run(command: str, clone: pathlib.Path, said=subprocess.PIPE) -> subprocess.CompletedProcess:
+    """Runs a command in the clone, and tells how long it took. Its standard error is kept, or goes where it is told."""
     begun = time.monotonic()
-    ended = subprocess.run(["sh", "-c", command], cwd=clone, capture_output=True, text=True, check=False)
+    ended = subprocess.run(["sh", "-c", command], cwd=clone, stdout=subprocess.PIPE, stderr=said, text=True, check=False)
     print(f"{command}: status {ended.returncode} after {time.monotonic() - begun:.1f} seconds", flush=True)
     return ended
 
@@ -57,10 +57,9 @@ def answers(command: str, clone: pathlib.Path, report: str) -> str:
 
 
 def prove(clone: pathlib.Path, command: str, report: str):
-    """Makes the proved program, which then answers by itself."""
-    ended = run("./prove", clone)
-    if ended.returncode:
-        raise Failed(f"./prove said {ended.stderr[-600:]!r}")
+    """Makes the proved program, which then answers by itself. How far ./prove is stands on standard error meanwhile."""
+    if run("./prove", clone, said=None).returncode:
+        raise Failed("./prove didn't end with 0")
     begun = time.monotonic()
     said = answers(command, clone, report)
     if said or time.monotonic() - begun > 1:

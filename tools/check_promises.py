@@ -1,10 +1,11 @@
 #!/usr/bin/env python3
-"""Looks up each name of docs/PROMISES.md and of docs/WALK.md in the code.
+"""Looks up each name of docs/PROMISES.md and docs/WALK.md in the code, and those of docs/GLOSSARY.md that stand with their place.
 
-check_promises.py: prints each name that isn't there, and a line `N names found, M not`.
+check_promises.py: prints each name that isn't there, each crate that has no line where it should, and a line
+`N names found, M not`.
 
-A part of a page has a heading with its crates, or speaks of the world and the program. A name in backticks is one of
-these, in a crate of its part or in one on which these stand:
+A part of a page has a heading with its crates, or speaks of the world and the program. A row of a table that begins with
+crates is a part of its own. A name in backticks is one of these, in a crate of its part or in one on which these stand:
 
     `name`                        a function, a clause of a contract, a definition of specs/, a field of a record or
                                   struct, a type or a variant, or a file
@@ -14,7 +15,9 @@ these, in a crate of its part or in one on which these stand:
     `name`, clauses `a`, `b`      clauses of just that function
 
 What isn't spelled as a name, a formula say, is passed over. An item of a list that begins with a name promises something
-of it, and a part has one such item for each. Of docs/GLOSSARY.md the names that stand with their place are looked up.
+of it, and a part has one such item for each.
+
+Each crate has a line in docs/ARCHITECTURE.md, and one in docs/PROMISES.md or, where it holds tests, in docs/GATE.md.
 """
 
 import collections
@@ -27,6 +30,7 @@ PAGES = ("PROMISES.md", "WALK.md")
 # Of this page only the names are looked up that stand with their place.
 WORDS = "GLOSSARY.md"
 HEADLINE_CRATES = ["tipc_sim", "tipc_world", "tipc_replay"]
+ROW = re.compile(r"^\| ((?:tipc_\w+(?:, )?)+) \| (.*) \|$", re.MULTILINE)
 QUOTED = re.compile(r"`([^`]+)`((?:, (?:part `\w+`))?)")
 PLACED = re.compile(r"(?<!part )`([A-Za-z_]\w*)`[,;]? \(?(?:(tipc_\w+),? )?(specs|src)/(\w+)")
 FILE = re.compile(r"(?:(tipc_\w+),? )?(specs|src)/(\w+)")
@@ -87,7 +91,8 @@ def parts_of(page: str, known: dict) -> list:
     for part in re.split(r"(?m)^## ", page)[1:]:
         heading, _, text = part.partition("\n")
         crates = [crate for crate in re.findall(r"tipc_\w+", heading) if crate in known]
-        parts.append((heading, crates or HEADLINE_CRATES, text))
+        parts.append((heading, crates or HEADLINE_CRATES, ROW.sub("", text)))
+        parts += [(f"{heading}, {row[1]}", row[1].split(", "), row[2]) for row in ROW.finditer(text)]
     return parts
 
 
@@ -148,12 +153,19 @@ def look_up(code: Code, page: str) -> tuple:
     return found, wrong
 
 
+def unlisted(code: Code) -> list:
+    """The crates that have no line on a page where they should."""
+    pages = {page: (TOP / "docs" / page).read_text(encoding="utf-8") for page in ("ARCHITECTURE.md", "PROMISES.md", "GATE.md")}
+    places = [(page, crate) for crate in code.below for page in ("ARCHITECTURE.md", "GATE.md" if crate.endswith("_tests") else "PROMISES.md")]
+    return [f"{page}: {crate} has no line" for page, crate in places if not re.search(rf"\b{crate}\b", pages[page])]
+
+
 def main() -> int:
     code = Code()
     looked = [look_up(code, page) for page in PAGES]
     words = (TOP / "docs" / WORDS).read_text(encoding="utf-8")
     looked.append((len(PLACED.findall(words)), [f"{WORDS}: {name} isn't there" for name in misplaced(code, HEADLINE_CRATES, words)]))
-    wrong = [line for _, lines in looked for line in lines]
+    wrong = [line for _, lines in looked for line in lines] + unlisted(code)
     found = sum(number for number, _ in looked)
     for line in wrong:
         print(line)
