@@ -56,7 +56,7 @@ pub struct Payload {
     pub reroute_count: u8,
     /// How far a name is looked up, at most 3.
     pub lookup_scope: u8,
-    /// The last broadcast number that the sender took.
+    /// The last broadcast number that the sender took; 0 from nodes of this project, which tell it in STATE.
     pub broadcast_acknowledgement: u16,
     /// The number of the port that the message comes from.
     pub origin_port: u32,

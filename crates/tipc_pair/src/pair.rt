@@ -250,7 +250,8 @@ impl Pair {
     ///
     /// # Errors
     ///
-    /// Where memory runs out. Nothing is changed then. A packet of an ended contact, which is passed over, takes none.
+    /// Where memory runs out. Nothing is changed then. A RESET or an ACTIVATE that shows a contact number below the highest seen is passed
+    /// over, and takes none.
     pub fn arrive(
         &mut self,
         alloc: Global,
@@ -284,7 +285,7 @@ impl Pair {
     ///
     /// # Errors
     ///
-    /// Where memory runs out. A packet of an ended contact, which is passed over, takes none.
+    /// Where memory runs out. A RESET or an ACTIVATE that shows a contact number below the highest seen is passed over, and takes none.
     pub fn prepare(
         &self,
         alloc: Global,

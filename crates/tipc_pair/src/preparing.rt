@@ -62,7 +62,7 @@ impl LinkEnds {
     ///
     /// # Errors
     ///
-    /// Where memory runs out for a packet that isn't passed over.
+    /// Where memory runs out for a packet that isn't a RESET or an ACTIVATE below the highest contact number seen.
     pub(crate) fn prepare(
         &self,
         alloc: Global,

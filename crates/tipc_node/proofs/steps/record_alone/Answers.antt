@@ -1,5 +1,4 @@
-use Rattle.std.proofs.Common.{◌≡◌, ◌+◌, ◌++◌, ◌∷◌, [], List, ap, length, length-append, refl, ◌∙◌, arith}
-use Rattle.tipc_journal.specs.declared.entries.Entry.{Entry}
+use Rattle.std.proofs.Common.{◌∷◌, [], ap, length, length-append, refl, arith}
 use Rattle.tipc_journal.specs.declared.entries.Entry.TheVariants.{Step, Answered}
 use Rattle.tipc_journal.specs.Room.{JournalState, message_bytes}
 use Rattle.tipc_journal.proofs.StepRooms.{short_room}
