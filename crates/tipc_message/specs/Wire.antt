@@ -92,13 +92,18 @@ packet_of own (message.Items withdrawal items) = Some (items_packet own withdraw
 abbrev pub port_at : ℕ → ℕ → PortId
 port_at node port = record { node = record { word = node }; port = port }
 
+-- The message of a payload packet with this body, in this form, from a node to a node, with a name type and the bounds of its
+-- instances.
+abbrev pub message_between : Payload → Form → ℕ → ℕ → ℕ → ℕ → ℕ → List ℕ → Message
+message_between p form origin destination kind lower upper body = message.Payload (importance_of p.importance) form (port_at origin p.origin_port) (port_at destination p.destination_port) kind lower upper p.error_code p.destination_droppable body
+
 -- The message of a payload packet, addressed so, with this body. A message between connected ports names no nodes, and
 -- so 0 stands for both.
 abbrev pub message_by : Payload → Addressing → List ℕ → Message
-message_by p Connected body = message.Payload (importance_of p.importance) form.Connected (port_at 0 p.origin_port) (port_at 0 p.destination_port) 0 0 0 p.error_code p.destination_droppable body
-message_by p (Multicast origin destination kind lower upper) body = message.Payload (importance_of p.importance) form.Multicast (port_at origin p.origin_port) (port_at destination p.destination_port) kind lower upper p.error_code p.destination_droppable body
-message_by p (Named origin destination kind instance) body = message.Payload (importance_of p.importance) form.Named (port_at origin p.origin_port) (port_at destination p.destination_port) kind instance instance p.error_code p.destination_droppable body
-message_by p (Direct origin destination) body = message.Payload (importance_of p.importance) form.Direct (port_at origin p.origin_port) (port_at destination p.destination_port) 0 0 0 p.error_code p.destination_droppable body
+message_by p Connected body = message_between p form.Connected 0 0 0 0 0 body
+message_by p (Multicast origin destination kind lower upper) body = message_between p form.Multicast origin destination kind lower upper body
+message_by p (Named origin destination kind instance) body = message_between p form.Named origin destination kind instance instance body
+message_by p (Direct origin destination) body = message_between p form.Direct origin destination 0 0 0 body
 
 -- whether an item message tells of withdrawals
 abbrev pub is_withdrawal : DistributionType → Bool

@@ -1,9 +1,9 @@
 //! A message as the packet that carries it, and the message that a packet carries.
 
-ghost use Rattle.std.specs.Prelude.{◌≡◌, ◌≤◌, ◌<◌, ◌^◌, Some, length, IfOk};
+ghost use Rattle.std.specs.Prelude.{◌≡◌, ◌≤◌, ◌<◌, ◌^◌, Some, length, IfOk, List, ℕ};
 ghost use Rattle.tipc_header.specs.Grammar.{Fits, AddressingFits};
 ghost use Rattle.tipc_header.specs.Spelling.{Fields, spelling, view};
-ghost use Rattle.tipc_message.specs.Wire.{addressing_of, importance_number, importance_of, lookup_scope_of, message_by, message_of, packet_of, port_at, IsCarried, IsPayload};
+ghost use Rattle.tipc_message.specs.Wire.{addressing_of, importance_number, importance_of, lookup_scope_of, message_between, message_by, message_of, packet_of, port_at, IsCarried, IsPayload};
 
 use crate::distribution::{distribution_bytes, distribution_message};
 use crate::encoding::encoded;
@@ -160,12 +160,13 @@ fn port_at(node: u32, port: u32) -> PortId
     }
 }
 
-/// The user's message with this header and body.
-fn payload_message(alloc: Global, payload: &Payload, body: &[u8]) -> Result<Message, NoMemory>
-    ensures { IfOk result (λ m. m ≡ message_by payload.now payload.now.addressing body.now) }
+/// What a packet's addressing says: the form, the nodes that the message goes from and to, the name type, and the first and the last
+/// instance; 0 stands for what it doesn't name.
+fn addressed(addressing: &Addressing) -> (Form, u32, u32, u32, u32, u32)
+    ensures { (p : Payload) → (body : List ℕ) → message_by p addressing.now body ≡
+        message_between p result.0 result.1 result.2 result.3 result.4 result.5 body }
 {
-    let body = Body::from_slice(alloc, body)?;
-    let (form, origin, destination, name_kind, lower, upper) = match payload.addressing {
+    match *addressing {
         Addressing::Connected => (Form::Connected, 0, 0, 0, 0, 0),
         Addressing::Multicast {
             origin_node,
@@ -202,7 +203,15 @@ fn payload_message(alloc: Global, payload: &Payload, body: &[u8]) -> Result<Mess
             origin_node,
             destination_node,
         } => { (Form::Direct, origin_node, destination_node, 0, 0, 0) }
-    };
+    }
+}
+
+/// The user's message with this header and body.
+fn payload_message(alloc: Global, payload: &Payload, body: &[u8]) -> Result<Message, NoMemory>
+    ensures { IfOk result (λ m. m ≡ message_by payload.now payload.now.addressing body.now) }
+{
+    let body = Body::from_slice(alloc, body)?;
+    let (form, origin, destination, name_kind, lower, upper) = addressed(&payload.addressing);
     Ok(Message::Payload {
         importance: importance_of(payload.importance),
         form,
