@@ -30,6 +30,8 @@ PAGES = ("PROMISES.md", "WALK.md")
 # Of this page only the names are looked up that stand with their place.
 WORDS = "GLOSSARY.md"
 HEADLINE_CRATES = ["tipc_sim", "tipc_world", "tipc_replay"]
+# The end of a line that the next one goes on from.
+GOES_ON = re.compile(r"\n *(?![ \n|#]|[-*] |\d+\. )")
 ROW = re.compile(r"^\| ((?:tipc_\w+(?:, )?)+) \| (.*) \|$", re.MULTILINE)
 QUOTED = re.compile(r"`([^`]+)`((?:, (?:part `\w+`))?)")
 PLACED = re.compile(r"(?<!part )`([A-Za-z_]\w*)`[,;]? \(?(?:(tipc_\w+),? )?(specs|src)/(\w+)")
@@ -83,6 +85,11 @@ class Code:
     def has_in(self, name: str, crates: list, kind: str, file: str) -> bool:
         """Whether a name is one of that file in one of the crates."""
         return any(name in self.by_file.get((crate, kind, file), ()) for crate in crates)
+
+
+def read_page(name: str) -> str:
+    """A page, in which each paragraph and each item of a list is one line."""
+    return GOES_ON.sub(" ", (TOP / "docs" / name).read_text(encoding="utf-8"))
 
 
 def parts_of(page: str, known: dict) -> list:
@@ -143,7 +150,7 @@ def subjects(text: str) -> list:
 def look_up(code: Code, page: str) -> tuple:
     """How many names of a page are there, and what isn't."""
     found, wrong = 0, []
-    for heading, crates, text in parts_of((TOP / "docs" / page).read_text(encoding="utf-8"), code.below):
+    for heading, crates, text in parts_of(read_page(page), code.below):
         lost, there = missing(code, crates, text)
         found += there
         lost += [*misplaced(code, crates, text), *unclaused(code, crates, text)]
@@ -163,7 +170,7 @@ def unlisted(code: Code) -> list:
 def main() -> int:
     code = Code()
     looked = [look_up(code, page) for page in PAGES]
-    words = (TOP / "docs" / WORDS).read_text(encoding="utf-8")
+    words = read_page(WORDS)
     looked.append((len(PLACED.findall(words)), [f"{WORDS}: {name} isn't there" for name in misplaced(code, HEADLINE_CRATES, words)]))
     wrong = [line for _, lines in looked for line in lines] + unlisted(code)
     found = sum(number for number, _ in looked)

@@ -85,8 +85,8 @@ no_room_of gives old new heard n k call c c' unmade = (unmade.0.0, unmade.1)
 
 -- ---- the ends of a step
 
--- What shows each end of a step of the node with that number, of which this is the journal, these are the frames that were heard, and this is
--- the call.
+-- What shows each end of a step of the node with that number, of which this is the journal, these are the frames that
+-- were heard, and this is the call.
 pub record Ends {P Q : Type 0} (gives : P → ℕ → ℕ → ℕ → Type 0) (pick_of : Q → P) (nodes : List (LockedState P)) (old : ReplayState) (cs : List (Choosing Q)) (k : KeptStep) (c : Choosing Q)
     (number : ℕ) (journal : List Entry) (heard : List (List ℕ)) (call : EventNote) : Type 0 where
   pub there : has_member old.members number ≡ true

@@ -82,7 +82,8 @@ step_size s = let inner = length-append s.inside (Answered s.caller s.call s.ans
 
 -- ---- the node of the step
 
--- Where the replay made the next step of a node, and each of its entries is what the journal keeps, it has made that too.
+-- Where the replay made the next step of a node, and each of its entries is what the journal keeps, it has made that
+-- too.
 pub made_next : {P : Type 0} (gives : P → ℕ → ℕ → ℕ → Type 0) (n : LockedState P) (old new : ReplayState) (number stamp i : ℕ) (p : PlacedStep) (m : MemberState) (sent : Bool)
     → IsWhole n.node.journal → arrival_numbers n.node.journal ≡ range_with_len 0 (length n.heard)
     → IsMadeBelow gives old.air stamp n m → slice_get (steps n.node.journal) i ≡ Some p → p.step.by.stamp ≡ stamp

@@ -132,8 +132,8 @@ behind_front (x ∷ xs) ys k =
 pub some_entries : (s : NodeStep) → (n : ℕ) × (length (step_entries s) ≡ suc n)
 some_entries s = (length (s.inside ++ Answered s.caller s.call s.answer ∷ []), refl)
 
--- Behind a front F stand kept steps, and the replay made a step t behind F. Where all entries of the kept step s stand at their places in the replay,
--- s is the first of the kept steps, and t has its entries.
+-- Behind a front F stand kept steps, and the replay made a step t behind F. Where all entries of the kept step s stand
+-- at their places in the replay, s is the first of the kept steps, and t has its entries.
 pub compares_well : (F : List Entry) (front : List NodeStep) (s t : NodeStep) → IsInside s.inside → IsInside t.inside
     → ((k : ℕ) → k < length (step_entries s) → slice_get (F ++ step_entries t) (length (F ++ flat_map step_entries front) + k) ≡ slice_get (step_entries s) k)
     → (front ≡ []) × (step_entries t ≡ step_entries s)

@@ -1,4 +1,5 @@
--- The steps of all nodes in order of stamp: each is one of a journal, each of a journal is among them, and no two have one stamp.
+-- The steps of all nodes in order of stamp: each is one of a journal, each of a journal is among them, and no two have
+-- one stamp.
 use Rattle.std.specs.List.{Contains, count_by}
 use Rattle.std.specs.List.Sorted.{IsNonDecreasing, IsPermutation}
 use Rattle.std.specs.Prelude.{Some, None, slice_get}

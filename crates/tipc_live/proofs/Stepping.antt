@@ -54,8 +54,8 @@ performed_again count other can = refl
 
 -- ---- the step
 
--- What an event at node `number` made of the nodes and the air, as a step of that node, which was `m` before; and whether it sent a message by
--- name.
+-- What an event at node `number` made of the nodes and the air, as a step of that node, which was `m` before; and
+-- whether it sent a message by name.
 pub record StepsSo {P : Type 0} (gives : P → ℕ → ℕ → ℕ → Type 0) (n : LockedState P) (old new : ReplayState) (number : ℕ) (by : By) (event : EventNote) (m : MemberState) (sent : Bool) : Type 0 where
   pub after : MemberState
   pub members : new.members ≡ slice_set old.members number (Some after)

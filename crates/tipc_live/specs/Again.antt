@@ -86,7 +86,8 @@ IsOutcomeOfCall gives old new n by call c c' Made = HappensAgain gives old new b
 IsOutcomeOfCall gives old new n by call c c' Full = IsUnmade old new c c' × (has_room_at old.members n ≡ false)
 IsOutcomeOfCall gives old new n by call c c' other = ⊥
 
--- What became of a call of node `n` that was to be made again: an arrival is one with the bytes that were heard under its number.
+-- What became of a call of node `n` that was to be made again: an arrival is one with the bytes that were heard under
+-- its number.
 abbrev pub IsOutcomeOf : {Q : Type 0} → (Q → ℕ → ℕ → ℕ → Type 0) → ReplayState → ReplayState → List (List ℕ) → ℕ → By → EventNote → Choosing Q → Choosing Q → Again → Type 0
 IsOutcomeOf gives old new heard n by (note.Arrive bearer number) c c' outcome =
     (bytes : List ℕ) × (slice_get heard number ≡ Some bytes) × IsOutcomeOfBytes gives old new n by bearer bytes c c' outcome

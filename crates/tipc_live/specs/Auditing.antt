@@ -42,7 +42,8 @@ pub record StopsAt {P : Type 0} (gives : P → ℕ → ℕ → ℕ → Type 0) (
 
 -- ---- a step that gives other entries
 
--- the replay made the step too, and that is the first of its places at which an entry is kept that the replay doesn't have there
+-- the replay made the step too, and that is the first of its places at which an entry is kept that the replay doesn't
+-- have there
 pub record GivesOther {P : Type 0} (gives : P → ℕ → ℕ → ℕ → Type 0) (air : AirState) (n : LockedState P) (m : MemberState) (p : PlacedStep) (place : ℕ) (kept : Entry) (replayed : Option Entry) : Type 0 where
   pub made : IsMadeTo gives air p n m
   pub differs : DifferFirst n.node.journal m.node.journal (length p.before) (length p.before + 1 + length p.step.inside) place kept replayed
@@ -54,8 +55,8 @@ pub record LacksRoom {P : Type 0} (gives : P → ℕ → ℕ → ℕ → Type 0)
   pub place_is : place ≡ length p.before
   pub nothing : replayed ≡ None
 
--- The entry that the journal of a node keeps at that place, from 0, isn't that of the replay, which made its step or has no room for it. It made
--- just the steps below that of all other nodes.
+-- The entry that the journal of a node keeps at that place, from 0, isn't that of the replay, which made its step or
+-- has no room for it. It made just the steps below that of all other nodes.
 pub record DiffersAt {P : Type 0} (gives : P → ℕ → ℕ → ℕ → Type 0) (nodes : List (LockedState P)) (replay : ReplayState) (number place : ℕ) (kept : Entry) (replayed : Option Entry) : Type 0 where
   pub index : ℕ
   pub locked : LockedState P

@@ -4,7 +4,8 @@ use Rattle.tipc_journal.specs.declared.entries.Entry.{Entry}
 use Rattle.tipc_live.specs.declared.answers.Audit.{Audit}
 use Rattle.tipc_live.specs.declared.answers.Audit.TheVariants.{Differ}
 
--- each entry that is kept from one place to another, which is counted in, stands at its place in the journal of the replay
+-- each entry that is kept from one place to another, which is counted in, stands at its place in the journal of the
+-- replay
 abbrev pub AreSameIn : List Entry → List Entry → ℕ → ℕ → Type 0
 AreSameIn kept replayed begin end = (k : ℕ) → begin ≤ k → k ≤ end → slice_get replayed k ≡ slice_get kept k
 

@@ -20,8 +20,8 @@ use Rattle.tipc_live.specs.Nodes.{locked_number}
 
 -- ---- one node
 
--- What the replay keeps of a node is a run of that node in its boot, with its pick from the first turn on: its journal is whole steps, whose
--- stamps rise, and each message by name went to the match that the pick gives.
+-- What the replay keeps of a node is a run of that node in its boot, with its pick from the first turn on: its journal
+-- is whole steps, whose stamps rise, and each message by name went to the match that the pick gives.
 pub record IsRunOf {P : Type 0} (gives : P → ℕ → ℕ → ℕ → Type 0) (n : LockedState P) (m : MemberState) : Type 0 where
   pub own : m.node.own ≡ n.node.own
   pub boot : m.node.boot ≡ n.node.boot
@@ -40,8 +40,8 @@ pub record HaveBytes (air : AirState) (arrivals : List Arrived) (heard : List (L
   pub few : length arrivals ≤ length heard
   pub each : (k : ℕ) (a : Arrived) → slice_get arrivals k ≡ Some a → arrived_bytes air a ≡ slice_get heard k
 
--- The replay made just those steps of the node again that have a stamp below this one. They gave what the journal keeps, and what arrived in
--- them had the bytes that were heard.
+-- The replay made just those steps of the node again that have a stamp below this one. They gave what the journal
+-- keeps, and what arrived in them had the bytes that were heard.
 pub record IsMadeBelow {P : Type 0} (gives : P → ℕ → ℕ → ℕ → Type 0) (air : AirState) (stamp : ℕ) (n : LockedState P) (m : MemberState) : Type 0 where
   pub run : IsRunOf gives n m
   pub heard : HaveBytes air m.arrivals n.heard
@@ -83,7 +83,8 @@ abbrev pub number_in : EventNote → ℕ
 number_in (Arrive bearer number) = number
 number_in call = 0
 
--- The replay made this step of a node again behind all that have a lower stamp; what arrived in it had the bytes that were heard then.
+-- The replay made this step of a node again behind all that have a lower stamp; what arrived in it had the bytes that
+-- were heard then.
 pub record IsMadeTo {P : Type 0} (gives : P → ℕ → ℕ → ℕ → Type 0) (air : AirState) (p : PlacedStep) (n : LockedState P) (m : MemberState) : Type 0 where
   pub run : IsRunOf gives n m
   pub front : List Entry

@@ -5,7 +5,8 @@ use Rattle.tipc_journal.specs.declared.entries.Entry.{Entry}
 use Rattle.tipc_journal.specs.Counting.{stamps}
 use Rattle.tipc_journal.specs.Steps.{NodeStep, is_inner, step_entries}
 
--- A journal is the front of another one, of just those steps that have a stamp below this one: behind it are whole steps, none of which has.
+-- A journal is the front of another one, of just those steps that have a stamp below this one: behind it are whole
+-- steps, none of which has.
 pub record IsFrontBelow (stamp : ℕ) (journal front : List Entry) : Type 0 where
   pub rest : List NodeStep
   pub clean : list_all (λ s. list_all is_inner s.inside) rest ≡ true

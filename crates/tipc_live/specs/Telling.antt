@@ -9,13 +9,15 @@ use Rattle.tipc_live.specs.declared.passes.CallName.{CallName}
 use Rattle.tipc_live.specs.Calls.{DifferAt, steps_by}
 use Rattle.tipc_live.specs.Nodes.{locked_number}
 
--- what a pass tells is so: its calls are those of its caller in the journal, and where it was told that the journal is full, that has no room
+-- what a pass tells is so: its calls are those of its caller in the journal, and where it was told that the journal is
+-- full, that has no room
 pub record TellsTrue (journal : List Entry) (p : PassState) : Type 0 where
   pub calls : p.made ≡ steps_by p.caller journal
   pub full : p.full ≡ true → has_journal_room journal ≡ false
 
--- A pass tells otherwise of the call with that number: there its calls and those of its caller in the journal differ first. Or they don't
--- differ, and it is the call behind them: the pass was told that the journal is full, which has room.
+-- A pass tells otherwise of the call with that number: there its calls and those of its caller in the journal differ
+-- first. Or they don't differ, and it is the call behind them: the pass was told that the journal is full, which has
+-- room.
 abbrev pub TellsOtherwise : List Entry → PassState → ℕ → Type 0
 TellsOtherwise journal p call =
     DifferAt p.made (steps_by p.caller journal) call
@@ -36,7 +38,8 @@ IsFirstOf (Some call) other first =
     ((first ≡ call) × IsUpTo call.caller call.call other.caller other.call)
     ⊎ ((first ≡ other) × (IsUpTo call.caller call.call other.caller other.call → ⊥))
 
--- of several passes one of that caller tells otherwise of that call, and none does of an earlier one, by caller and number
+-- of several passes one of that caller tells otherwise of that call, and none does of an earlier one, by caller and
+-- number
 pub record IsFirst (journal : List Entry) (passes : List PassState) (caller call : ℕ) : Type 0 where
   pub pass : PassState
   pub among : Contains passes pass

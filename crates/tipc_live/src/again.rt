@@ -27,7 +27,8 @@ pub enum Again {
     TooOld(u64),
 }
 
-/// Lets an event happen: None where the journal of its node has no room for it. Memory ran out, too, where a frame was lost for want of it.
+/// Lets an event happen: None where the journal of its node has no room for it. Memory ran out, too, where a frame was
+/// lost for want of it.
 fn happen<P: Pick>(
     replay: &mut Replay,
     alloc: Global,

@@ -10,8 +10,9 @@ pub enum Audit {
         /// The stamp.
         stamp: u64,
     },
-    /// A pass tells of this call, the first by node, caller and number, otherwise than its node's journal does; or this is the call behind
-    /// all that the pass tells, at which it was told that the journal is full, and the journal has room.
+    /// A pass tells of this call, the first by node, caller and number, otherwise than its node's journal does; or this
+    /// is the call behind all that the pass tells, at which it was told that the journal is full, and the journal has
+    /// room.
     Told {
         /// The node's number.
         node: u8,
@@ -33,7 +34,7 @@ pub enum Audit {
         node: u8,
         /// The arrival's number.
         number: u64,
-        /// How many packets were numbered since it was sent.
+        /// How many numbers were used since it was sent.
         count: u64,
     },
     /// The journal keeps another entry than the replay has at that place, which made that step or has no room for it.

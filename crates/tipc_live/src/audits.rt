@@ -17,14 +17,15 @@ use tipc_pick::Pick;
 use tipc_replay::Replay;
 use tipc_types::NoMemory;
 
-/// Makes all steps of the nodes' journals again in a replay that is empty before, in order of stamp, and tells the first that isn't what its
-/// journal keeps; but before that whether a stamp stands twice, or a pass tells a call otherwise. Each node has its own pick, from the first
-/// turn on, and a frame that arrived is taken for the latest one with its bytes that was sent to it on that bearer before.
+/// Makes all steps of the nodes' journals again in a replay that is empty before, in order of stamp, and tells the
+/// first that isn't what its journal keeps; but before that whether a stamp stands twice, or a pass tells a call
+/// otherwise. Each node has its own pick, from the first turn on, and a frame that arrived is taken for the latest one
+/// with its bytes that was sent to it on that bearer before.
 ///
-/// Each answer is shown by the nodes and the replay, as the clause says. At Yes the replay holds just the journals of the nodes, and what
-/// arrived has the bytes that were heard, so what [`Replay::good`] tells of the replay is told of them. It takes the time of the steps, but for
-/// the sort by stamp, for the passes, each of which is compared with all steps of its node, and for the frames that are
-/// looked at behind the one that arrived.
+/// Each answer is shown by the nodes and the replay, as the clause says. At Yes the replay holds just the journals of
+/// the nodes, and what arrived has the bytes that were heard, so what [`Replay::good`] tells of the replay is told of
+/// them. It takes the time of the steps, but for the sort by stamp, for the passes, each of which is compared with all
+/// steps of its node, and for the frames that are looked at behind the one that arrived.
 ///
 /// # Errors
 ///

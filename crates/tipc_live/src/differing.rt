@@ -72,7 +72,8 @@ pub fn differ(
     })
 }
 
-/// Compares what the journal of node `n` keeps from one place to another, which is counted in, with the journal of the replay.
+/// Compares what the journal of node `n` keeps from one place to another, which is counted in, with the journal of the
+/// replay.
 pub fn compare(
     n: u8,
     kept: &[Entry],

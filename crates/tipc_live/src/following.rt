@@ -1,4 +1,5 @@
-//! Each step is made again in the replay, in order of stamp, and what the journal keeps of it is compared with what comes of it.
+//! Each step is made again in the replay, in order of stamp, and what the journal keeps of it is compared with what
+//! comes of it.
 
 ghost use Rattle.std.specs.Prelude.{◌≡◌, ◌+◌, ◌≤◌, ℕ, true, map, All, IfOk, MatchOption};
 ghost use Rattle.std.specs.List.Sorted.{IsNonDecreasingBy, IsPermutation};

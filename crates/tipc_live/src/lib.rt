@@ -1,4 +1,5 @@
-//! The audit of a live run: the journals of its nodes, merged by stamp, are made again step by step, and compared with what comes of it.
+//! The audit of a live run: the journals of its nodes, merged by stamp, are made again step by step, and compared with
+//! what comes of it.
 //!
 //! - `answers` (what an audit answers), `audits` (the audit), `gathered` (what is gathered of a run).
 //! - `keeping` (the steps of a journal), `merging` (those of all, in order of stamp).

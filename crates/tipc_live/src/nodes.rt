@@ -84,7 +84,8 @@ fn is_fit<P>(nodes: &[LockedNode<P>], locked: &LockedNode<P>) -> bool
     is_of_cluster(locked) && has_one_address(nodes, locked.node().own().word)
 }
 
-/// Whether nodes can be audited together: each is one of the cluster's, in a boot from 1 on, and no two have one address.
+/// Whether nodes can be audited together: each is one of the cluster's, in a boot from 1 on, and no two have one
+/// address.
 #[tactic(auto, unfolding(crate::specs::Nodes::can_audit))]
 pub fn can_audit<P>(nodes: &[LockedNode<P>]) -> bool
     ensures { result ≡ can_audit nodes.now }

@@ -21,8 +21,8 @@ pub struct CallName {
     pub call: u64,
 }
 
-/// The number of the first call that a pass tells otherwise than the journal of its node, of these steps; or of the one behind its calls, where
-/// it was told that the journal is full and that has room.
+/// The number of the first call that a pass tells otherwise than the journal of its node, of these steps; or of the one
+/// behind its calls, where it was told that the journal is full and that has room.
 fn told_otherwise<P>(locked: &LockedNode<P>, steps: &[KeptStep], pass: &Pass) -> Option<u64>
     requires { (node : ℕ) × (steps.now ≡ kept_in node locked.now.node.journal) }
     ensures { MatchOption result (TellsTrue locked.now.node.journal pass.now)
@@ -86,7 +86,8 @@ fn told_at<P>(
     Ok(first_told_at(locked, steps.as_slice()))
 }
 
-/// The first call, by node, caller and number, that a pass tells otherwise than the journal of its node, with the number of the node.
+/// The first call, by node, caller and number, that a pass tells otherwise than the journal of its node, with the
+/// number of the node.
 pub fn first_told<P>(
     alloc: Global,
     nodes: &[LockedNode<P>],

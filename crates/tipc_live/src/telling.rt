@@ -71,8 +71,8 @@ fn is_told_at(entries: &[Entry], step: &KeptStep, told: &[MadeCall], number: usi
     }
 }
 
-/// The number of the first call at which the calls that a caller tells and its steps in a journal differ, also where there are more of one of
-/// them.
+/// The number of the first call at which the calls that a caller tells and its steps in a journal differ, also where
+/// there are more of one of them.
 pub fn first_difference(
     entries: &[Entry],
     steps: &[KeptStep],

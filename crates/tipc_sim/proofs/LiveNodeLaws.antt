@@ -1,4 +1,5 @@
--- The passes of a live run's nodes are one for each caller, so each node comes out of its lock; and what the nodes, taken out, show of the run.
+-- The passes of a live run's nodes are one for each caller, so each node comes out of its lock; and what the nodes,
+-- taken out, show of the run.
 use Rattle.std.specs.List.{All, count_by}
 use Rattle.std.specs.Prelude.{nat_le, nat_lt, slice_index_or}
 use Rattle.std.proofs.Common.{◌≡◌, ℕ, zero, suc, ◌+◌, ◌*◌, ◌<◌, ◌≤◌, ◌==◌, Bool, true, false, arith, List, [], ◌∷◌, ◌++◌, append-nil, append_assoc, drop, length, map, refl, sym, subst, take, ◌∙◌, ap, eq-eqb}

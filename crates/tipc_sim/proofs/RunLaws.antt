@@ -116,7 +116,8 @@ ends_whole script rest number start now before after u none =
 
 -- ---- the line that ends a run
 
--- a line stands behind those that were done, which are without fault, and its fault is the one that it has in the world that they left
+-- a line stands behind those that were done, which are without fault, and its fault is the one that it has in the world
+-- that they left
 record IsNext (script line : List ℕ) (number : ℕ) (old : Scene) : Type 0 where
   sound : AreSound (take number (lines_of script))
   there : slice_get (lines_of script) number ≡ Some line

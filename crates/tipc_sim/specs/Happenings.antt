@@ -70,7 +70,8 @@ abbrev pub wished : ℕ → ℕ → ℕ → ℕ → Filter → Subscription
 wished kind lower upper timeout filter =
     record { range_kind = kind; lower = lower; upper = upper; timeout = timeout; filter = filter_number filter; handle = no_handle }
 
--- the event that a line about a subscription is; None for another line, and for a range whose lower bound is above the upper
+-- the event that a line about a subscription is; None for another line, and for a range whose lower bound is above the
+-- upper
 abbrev pub subscription_event : Line → Option WorldEvent
 subscription_event (Subscribe node kind lower upper timeout filter) =
     if nat_le lower upper then Some (event.Call node (call.Subscribe (wished kind lower upper timeout filter))) else None
@@ -78,8 +79,8 @@ subscription_event (Event node number) = Some (event.Call node (call.NextEvent n
 subscription_event (Cancel node number) = Some (event.Call node (call.Cancel number))
 subscription_event other = None
 
--- the event that a line about a service, a socket or a subscription is; None for another line, and for a range whose lower bound is
--- above the upper
+-- the event that a line about a service, a socket or a subscription is; None for another line, and for a range whose
+-- lower bound is above the upper
 abbrev pub service_event : Line → Option WorldEvent
 service_event (Close node port) = Some (event.Call node (call.Close port))
 service_event (Publish node port kind lower upper scope key) =
@@ -154,8 +155,8 @@ abbrev pub told_of_flow : Option FlowCounts → Told
 told_of_flow None = told.NoContact
 told_of_flow (Some counts) = told.Flow counts.accepted counts.delivered
 
--- what is told of a line that leaves everything as it is: a line that asks for nothing is one, and a publication or a subscription is
--- one where its range is bad
+-- what is told of a line that leaves everything as it is: a line that asks for nothing is one, and a publication or a
+-- subscription is one where its range is bad
 abbrev pub told_of : Line → NotesState → WorldState → Told
 told_of (Air bearer) notes w = told.Air (length (air_on bearer w.air) - place_on bearer notes.bases)
 told_of (Show bearer frame) notes w = shown (slice_get (air_on bearer w.air) (counted (place_on bearer notes.bases + frame)))
@@ -197,8 +198,8 @@ abbrev pub beside : {A F : Type 0} → Result A F → NotesState → Result (A �
 beside (Ok value) notes = Ok (value, notes)
 beside (Err fault) notes = Err fault
 
--- a line was done: it makes the node that it names and no other, the world only grew, no frame was lost, contacts and links are then as the
--- journals tell, and this is told of it
+-- a line was done: it makes the node that it names and no other, the world only grew, no frame was lost, contacts and
+-- links are then as the journals tell, and this is told of it
 pub record Happens (line : Line) (before after : Scene) (given : Told) : Type 0 where
   pub nodes : (n : ℕ) → is_there after.world n ≡ (makes line n || is_there before.world n)
   pub grown : Grows before.world after.world
@@ -228,8 +229,8 @@ which_of limit.Journal = which.Journal
 abbrev pub written_line : ℕ → ℕ → Told → List ℕ
 written_line from number given = if nat_le from number then told_line number given else []
 
--- lines were done one after the other, each on what the line before left, and this is their report: a printed line for each from a
--- number on, where the first line has number 1
+-- lines were done one after the other, each on what the line before left, and this is their report: a printed line for
+-- each from a number on, where the first line has number 1
 pub data Runs (from : ℕ) (start : Scene) : List (List ℕ) → Scene → List ℕ → Type 0 where
   begin : Runs from start [] start []
   go_on : (lines : List (List ℕ)) (before : Scene) (report line : List ℕ) (after : Scene) (given : Told)

@@ -17,8 +17,8 @@ use Rattle.tipc_work.specs.Shown.{calls_made}
 abbrev pub calls_told : List Entry → ℕ → List (EventNote × Answer)
 calls_told journal caller = calls_made (steps_by caller journal)
 
--- A node's journal shows the plan: the calls of each of its callers show that one's part, and those of its mover, who is the caller behind the
--- others, show the mover's.
+-- A node's journal shows the plan: the calls of each of its callers show that one's part, and those of its mover, who
+-- is the caller behind the others, show the mover's.
 pub record ShowsPlan (plan : LivePlan) (node : ℕ) (journal : List Entry) : Type 0 where
   pub callers : (caller : ℕ) → 1 ≤ caller → caller ≤ plan.callers → ShowsCaller plan node caller (calls_told journal caller)
   pub mover : ShowsMover (calls_told journal (plan.callers + 1))
@@ -34,7 +34,8 @@ ShowsBy false plan node p = ShowsCaller plan node p.caller (calls_made p.made)
 abbrev pub ShowsPart : LivePlan → ℕ → PassState → Type 0
 ShowsPart plan node p = ShowsBy (nat_lt plan.callers p.caller) plan node p
 
--- The passes of a node: one for each caller and a last one for the mover, in order, and each shows its part of the plan or is marked full.
+-- The passes of a node: one for each caller and a last one for the mover, in order, and each shows its part of the plan
+-- or is marked full.
 pub record HaveParts (plan : LivePlan) (node : ℕ) (passes : List PassState) : Type 0 where
   pub count : length passes ≡ plan.callers + 1
   pub callers : (i : ℕ) (p : PassState) → i < length passes → (slice_index_or passes i p).caller ≡ i + 1

@@ -30,8 +30,8 @@ pub record AreOnePerCaller (locks : List LockState) (passes : List (List PassSta
   pub each : (i : ℕ) (l : LockState) (ps : List PassState) → i < length locks
       → is_one_per_caller (slice_index_or locks i l).own (slice_index_or locks i l).callers (slice_index_or passes i ps) ≡ true
 
--- What a run leaves: the passes of the nodes show what the plan's callers and movers did, of nodes 1, 2 and so on, and what became of the bearers,
--- and whether one of these was seen to fail.
+-- What a run leaves: the passes of the nodes show what the plan's callers and movers did, of nodes 1, 2 and so on, and
+-- what became of the bearers, and whether one of these was seen to fail.
 pub record IsLeftByRun {P B : Type 0} (tried given faults : B → ℕ) (plan : LivePlan) (bearers : List B) (nodes : List (LockedState P)) (failed : Bool)
     (bearers' : List B) : Type 0 where
   pub locks : List LockState
@@ -39,7 +39,8 @@ pub record IsLeftByRun {P B : Type 0} (tried given faults : B → ℕ) (plan : L
   pub own : (i : ℕ) (l : LockState) → i < plan.nodes → (slice_index_or locks i l).own ≡ node_word (i + 1)
   pub worked : HaveWorked tried given faults plan locks bearers (map (λ n. n.passes) nodes) failed bearers'
 
--- What is gathered of a run of a plan, which takes the first two bearers for each node: its nodes in order, and what it left.
+-- What is gathered of a run of a plan, which takes the first two bearers for each node: its nodes in order, and what it
+-- left.
 pub record HasRun {P B : Type 0} (tried given faults : B → ℕ) (plan : LivePlan) (bearers : List B) (g : GatheredState P B) (failed : Bool) : Type 0 where
   pub nodes : length g.nodes ≡ plan.nodes
   pub own : AreNodesInOrder g.nodes
@@ -54,7 +55,8 @@ verdict_of (audit.TooOld node number count) = verdict.TooOld node number count
 verdict_of (audit.Differ node place kept replayed) = verdict.Differ node place
 verdict_of audit.Yes = verdict.Yes
 
--- What is found of what is gathered. The audit's answer is told as it is; where that is Yes, the plan is looked for in the journals.
+-- What is found of what is gathered. The audit's answer is told as it is; where that is Yes, the plan is looked for in
+-- the journals.
 abbrev pub Finds : {P B : Type 0} → (P → ℕ → ℕ → ℕ → Type 0) → LivePlan → GatheredState P B → Verdict → Type 0
 Finds gives plan g verdict.Yes = Audits gives g.nodes g.replay audit.Yes × AllShowPlan plan g.nodes
 Finds gives plan g (verdict.Plan node) = Audits gives g.nodes g.replay audit.Yes × IsFirstUnshown plan g.nodes node

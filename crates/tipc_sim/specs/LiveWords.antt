@@ -9,8 +9,8 @@ use Rattle.tipc_work.specs.declared.plans.LivePlan.{LivePlan}
 abbrev pub medium_of : List ℕ → Option Bool
 medium_of word = if bytes_eq word (codes "memory") then Some false else (if bytes_eq word (codes "udp") then Some true else None)
 
--- the words for numbers are such: from 2 to 8 nodes, from 1 to 8 callers of each, and from 1 to 1,000 messages of each of these, all in decimal
--- digits without sign or leading zero
+-- the words for numbers are such: from 2 to 8 nodes, from 1 to 8 callers of each, and from 1 to 1,000 messages of each
+-- of these, all in decimal digits without sign or leading zero
 abbrev pub are_numbers : List ℕ → List ℕ → List ℕ → Bool
 are_numbers nodes callers messages = is_number 2 8 nodes && (is_number 1 8 callers && is_number 1 1000 messages)
 

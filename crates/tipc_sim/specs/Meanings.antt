@@ -35,12 +35,14 @@ abbrev pub told_of_link : List (Option MemberState) → ℕ → ℕ → ℕ → 
 told_of_link members first second bearer =
     if is_link_up_at members first second bearer && is_link_up_at members second first bearer then Up else Down
 
--- a bearer of two nodes is mended where it is cut, and then the frames of its air from a place on arrive at the two, each at the one that it is for
+-- a bearer of two nodes is mended where it is cut, and then the frames of its air from a place on arrive at the two,
+-- each at the one that it is for
 abbrev pub LinksFrom : ℕ → ℕ → ℕ → ℕ → Course ℕ
 LinksFrom place first second bearer =
     Then (MendsBoth first second bearer) (Drains (arrival_asked (Both first second) bearer) bearer (numbers * place))
 
--- the same, with the frames that were sent there since the beginning; what is told is whether both link ends are up then
+-- the same, with the frames that were sent there since the beginning; what is told is whether both link ends are up
+-- then
 abbrev pub Links : ℕ → ℕ → ℕ → Course Told
 Links first second bearer start (Ok told) now =
     (count : ℕ) × LinksFrom (length (air_on bearer start.air)) first second bearer start (Ok count) now

@@ -65,7 +65,8 @@ pub record RepeatHalts (event : WorldEvent) (passes : Answer → Bool) (start : 
 
 -- ---- messages that are sent
 
--- A message is sent so many times at most, which is 1 or more, until it isn't. The value is how many times it was, and the last answer.
+-- A message is sent so many times at most, which is 1 or more, until it isn't. The value is how many times it was, and
+-- the last answer.
 abbrev pub SendsAgain : ℕ → WorldEvent → Course (ℕ × Answer)
 SendsAgain times send start (Ok value) now =
     (RepeatsTo send is_sent start value.0 value.1 now × (value.0 ≡ times))
@@ -93,8 +94,8 @@ ReceivesAll node port start (Err stop) now = RepeatHalts (event.Call node (call.
 abbrev pub low_message : ℕ → ℕ → ℕ → ℕ → List ℕ → WorldEvent
 low_message node port to_node to_port body = event.Call node (call.SendPort port (port_at to_node to_port) Low body)
 
--- The frames of bearer 0 and then those of bearer 1 are pumped, from these places on. The value is the places up to which frames are pumped
--- then: frames that are sent on bearer 0 while bearer 1 is pumped wait.
+-- The frames of bearer 0 and then those of bearer 1 are pumped, from these places on. The value is the places up to
+-- which frames are pumped then: frames that are sent on bearer 0 while bearer 1 is pumped wait.
 abbrev pub PumpsBoth : Places → Course Places
 PumpsBoth places start (Ok ends) now =
     (between : WorldState) × (first : Told) × (second : Told) × Pumps 0 places.first start (Ok first) between
@@ -102,8 +103,8 @@ PumpsBoth places start (Ok ends) now =
     × (ends ≡ record { first = length between.air.first; second = length now.air.second })
 PumpsBoth places start (Err stop) now = Then (Pumps 0 places.first) (Pumps 1 places.second) start (Err stop) now
 
--- The frames from these places on are pumped, and then a message is received. The value is whether there was one, and up to which places frames
--- are pumped then.
+-- The frames from these places on are pumped, and then a message is received. The value is whether there was one, and
+-- up to which places frames are pumped then.
 abbrev pub PumpsAndReceives : Places → WorldEvent → Course (Bool × Places)
 PumpsAndReceives places receive start (Ok value) now =
     (between : WorldState) × (ends : Places) × (last : Answer) × PumpsBoth places start (Ok ends) between
@@ -116,15 +117,16 @@ FollowsSending true places receive start came now = PumpsAndReceives places rece
 FollowsSending false places receive start (Ok value) now = (now ≡ start) × (value ≡ (false, places))
 FollowsSending false places receive start (Err stop) now = ⊥
 
--- A message is sent, and where it was, frames are pumped and a message is received. The value is whether one was, and up to which places frames
--- are pumped then.
+-- A message is sent, and where it was, frames are pumped and a message is received. The value is whether one was, and
+-- up to which places frames are pumped then.
 abbrev pub Turn : WorldEvent → WorldEvent → Places → Course (Bool × Places)
 Turn send receive places start (Ok value) now = (between : WorldState) × (answer : Answer)
     × Once send start (Ok answer) between × FollowsSending (is_sent answer) places receive between (Ok value) now
 Turn send receive places start (Err stop) now =
     Once send start (Err stop) now ⊎ ((between : WorldState) × (answer : Answer) × Once send start (Ok answer) between × FollowsSending (is_sent answer) places receive between (Err stop) now)
 
--- So many turns were made, one after the other, and a message was received in each. The frames before those places are pumped.
+-- So many turns were made, one after the other, and a message was received in each. The frames before those places are
+-- pumped.
 pub data MakesTurns (send receive : WorldEvent) (first : Places) (start : WorldState) : ℕ → Places → WorldState → Type 0 where
   begin : MakesTurns send receive first start 0 first start
   go_on : (count : ℕ) (places : Places) (before : WorldState) (next : Places) (now : WorldState)
@@ -147,8 +149,8 @@ pub record TurnHalts (send receive : WorldEvent) (times : ℕ) (first : Places) 
   pub made : MakesTurns send receive first start count places before
   pub stopped : Turn send receive places before (Err stop) now
 
--- So many turns are made at most, until no message is received. The value is in how many one was, and up to which places frames are pumped
--- then.
+-- So many turns are made at most, until no message is received. The value is in how many one was, and up to which
+-- places frames are pumped then.
 abbrev pub Bursts : ℕ → WorldEvent → WorldEvent → Places → Course (ℕ × Places)
 Bursts times send receive first start (Ok value) now =
     (MakesTurns send receive first start times value.1 now × (value.0 ≡ times))

@@ -28,8 +28,8 @@ EndsOver script done closing =
     × (((16777216 < length script) × (closing ≡ limit_line 0 which.Bytes))
     ⊎ ((length script ≤ 16777216) × (65536 < length (lines_of script)) × (closing ≡ limit_line 0 which.Lines)))
 
--- a limit of the world stopped an event of the line that follows those that were done, which is without fault; the closing line tells
--- the limit
+-- a limit of the world stopped an event of the line that follows those that were done, which is without fault; the
+-- closing line tells the limit
 pub record EndsLimited (script : List ℕ) (done : ℕ) (left : Scene) (now : WorldState) (closing : List ℕ) : Type 0 where
   pub line : List ℕ
   pub there : slice_get (lines_of script) done ≡ Some line
@@ -38,13 +38,15 @@ pub record EndsLimited (script : List ℕ) (done : ℕ) (left : Scene) (now : Wo
   pub limited : IsLimited (asked line) left stop now
   pub told : closing ≡ limit_line (done + 1) (which_of stop)
 
--- the run ended early, with or without a closing line, and the world is the one that the lines left, but for the line that met a limit
+-- the run ended early, with or without a closing line, and the world is the one that the lines left, but for the line
+-- that met a limit
 abbrev pub EndsEarly : List ℕ → ℕ → Scene → WorldState → List ℕ → Type 0
 EndsEarly script done left now closing =
     ((closing ≡ []) × (now ≡ left.world))
     ⊎ ((EndsBadly script done closing × (now ≡ left.world)) ⊎ ((EndsOver script done closing × (now ≡ left.world)) ⊎ EndsLimited script done left now closing))
 
--- memory ran out at the line that follows those that were done, which is without fault: it was begun, and nothing is told of it
+-- memory ran out at the line that follows those that were done, which is without fault: it was begun, and nothing is
+-- told of it
 pub record EndsUntold (script : List ℕ) (done : ℕ) (left : Scene) (now : WorldState) (closing : List ℕ) : Type 0 where
   pub line : List ℕ
   pub there : slice_get (lines_of script) done ≡ Some line
@@ -61,8 +63,8 @@ Ends status.Limit script done left now closing = (EndsOver script done closing �
 Ends status.NoMemory script done left now closing = EndsUntold script done left now closing ⊎ EndsEarly script done left now closing
 Ends other script done left now closing = EndsEarly script done left now closing
 
--- what was written of a report and its closing line: all at these statuses, a part at WriteFault, and at the others a part, or all of a
--- report that has no closing line
+-- what was written of a report and its closing line: all at these statuses, a part at WriteFault, and at the others a
+-- part, or all of a report that has no closing line
 abbrev pub WritesReport : Status → Option (List ℕ) → Option (List ℕ) → List ℕ → List ℕ → Type 0
 WritesReport status.Ok before after report closing = Appends before after (report ++ closing)
 WritesReport status.BadLine before after report closing = Appends before after (report ++ closing)
@@ -71,8 +73,8 @@ WritesReport status.WriteFault before after report closing = AppendsPart before 
 WritesReport other before after report closing = AppendsPart before after (report ++ closing)
     ⊎ ((closing ≡ []) × Appends before after report)
 
--- What a run of a script came to: its first lines were done, they are without fault, and what was written is a head, their report from
--- a number on, and a closing line. The world only grew after them.
+-- What a run of a script came to: its first lines were done, they are without fault, and what was written is a head,
+-- their report from a number on, and a closing line. The world only grew after them.
 pub record Reports (head : List ℕ) (from : ℕ) (script : List ℕ) (s : Status) (start now : WorldState) (before after : Option (List ℕ)) : Type 0 where
   pub done : ℕ
   pub few : done ≤ length (lines_of script)

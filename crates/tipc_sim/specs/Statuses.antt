@@ -9,7 +9,8 @@ after_streams status true unwritten = ReadFault
 after_streams status false true = WriteFault
 after_streams status false false = status
 
--- how a run ends that came to this status, by whether all that it wrote could be given out at its end; at Usage it wrote nothing
+-- how a run ends that came to this status, by whether all that it wrote could be given out at its end; at Usage it
+-- wrote nothing
 abbrev pub after_flush : Status → Bool → Status
 after_flush Usage flushed = Usage
 after_flush status true = status

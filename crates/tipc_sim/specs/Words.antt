@@ -44,7 +44,8 @@ abbrev pub head_of : Form → List ℕ
 head_of form.Run = []
 head_of (form.Gen seed) = seed_line seed
 
--- the number of the first line whose answer is written. Of a generated script the last settling and what follows it are written.
+-- the number of the first line whose answer is written. Of a generated script the last settling and what follows it are
+-- written.
 abbrev pub first_told : Form → ℕ
 first_told form.Run = 1
 first_told (form.Gen seed) = 1048
@@ -57,7 +58,8 @@ OnScript words left claim = IfSome (form_of words) (λ form. IfSome (script_of f
 abbrev pub words_after_name : {A B : Type 0} → IntoIter (String A) B → List (List ℕ)
 words_after_name args = map string_bytes (drop 1 (into_iter_items args))
 
--- how the program ends that got no arguments, by the kind of the error: memory ran out, or one is no text, so that the words aren't a form
+-- how the program ends that got no arguments, by the kind of the error: memory ran out, or one is no text, so that the
+-- words aren't a form
 abbrev pub status_of : ErrorKind → Status
 status_of OutOfMemory = NoMemory
 status_of kind = Usage

@@ -25,8 +25,8 @@ pub fn make<P: Pick>(
     world.step(alloc, event)
 }
 
-/// Lets the frames of a bearer from a place on arrive at the receivers, with those that are sent meanwhile, until none is left, and
-/// answers how many arrived.
+/// Lets the frames of a bearer from a place on arrive at the receivers, with those that are sent meanwhile, until none
+/// is left, and answers how many arrived.
 pub fn empty_air<P: Pick>(
     alloc: Global,
     among: Receivers,

@@ -170,8 +170,8 @@ fn subscription_event(line: Line) -> Result<WorldEvent, Line>
     }
 }
 
-/// The event that a line about a service, a socket or a subscription is, or the line where it is another, or names a range
-/// without instances.
+/// The event that a line about a service, a socket or a subscription is, or the line where it is another, or names a
+/// range without instances.
 fn service_event(line: Line) -> Result<WorldEvent, Line>
     ensures event { IfOk result (λ event. service_event line ≡ Some event) }
     ensures other { IfErr result (λ other. (other ≡ line) × (service_event line ≡ None)) }
@@ -472,8 +472,8 @@ fn told_text(alloc: Global, from: u32, number: u32, told: &Told) -> Result<Vec<u
     Ok(text)
 }
 
-/// Does what a line asks for, and answers the printed line of what is told of it; nothing of a line before the first that is written.
-/// Where a frame was lost for want of memory nothing is printed, nor is a limit told that was reached.
+/// Does what a line asks for, and answers the printed line of what is told of it; nothing of a line before the first
+/// that is written. Where a frame was lost for want of memory nothing is printed, nor is a limit told that was reached.
 pub fn do_line<P: Pick>(
     alloc: Global,
     from: u32,

@@ -63,8 +63,8 @@ fn told_of_link<P: Pick>(first: u8, second: u8, bearer: u8, world: &World<P>) ->
     }
 }
 
-/// Mends a bearer of two nodes where it is cut, and lets the frames that are sent there meanwhile arrive at the two, each at the one that it
-/// is for, until none is left. It tells whether both link ends are up then.
+/// Mends a bearer of two nodes where it is cut, and lets the frames that are sent there meanwhile arrive at the two,
+/// each at the one that it is for, until none is left. It tells whether both link ends are up then.
 pub fn link<P: Pick>(
     alloc: Global,
     first: u8,

@@ -1,4 +1,5 @@
-//! Live runs: the callers of several nodes, each in a thread of its own, follow a plan, and what the nodes' journals tell is audited.
+//! Live runs: the callers of several nodes, each in a thread of its own, follow a plan, and what the nodes' journals
+//! tell is audited.
 //!
 //! - `words` (the plan that the program's words are), `nodes` (the nodes are run, and taken out of their locks), `judging` (what their journals
 //!   show), `counts` and `reports` (what is written of them), `runs` (the whole of it).

@@ -1,5 +1,6 @@
-//! Runs a script over a world of TIPC nodes: reads lines from standard input, does them one after the other,
-//! and answers each with one line on standard output. Or it lets threads call the nodes of a live run, and audits what their journals tell.
+//! Runs a script over a world of TIPC nodes: reads lines from standard input, does them one after the other, and
+//! answers each with one line on standard output. Or it lets threads call the nodes of a live run, and audits what
+//! their journals tell.
 #![tactic(auto)]
 
 mod frames;

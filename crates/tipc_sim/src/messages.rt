@@ -78,8 +78,8 @@ fn receive<P: Pick>(alloc: Global, at: Socket, world: &mut World<P>) -> Result<A
     make(alloc, event, world)
 }
 
-/// Sends a message again and again, so many times at most, which is 1 or more, and stops at the first send that is refused.
-/// It answers how many were sent, and the last answer.
+/// Sends a message again and again, so many times at most, which is 1 or more, and stops at the first send that is
+/// refused. It answers how many were sent, and the last answer.
 pub fn repeat<P: Pick>(
     alloc: Global,
     times: u32,
@@ -135,7 +135,8 @@ pub fn receive_all<P: Pick>(
     }
 }
 
-/// Pumps the frames of bearer 0 and then those of bearer 1, from these places on, and answers up to which places frames are pumped then.
+/// Pumps the frames of bearer 0 and then those of bearer 1, from these places on, and answers up to which places frames
+/// are pumped then.
 fn pump_both<P: Pick>(
     alloc: Global,
     places: Places,
@@ -153,8 +154,8 @@ fn pump_both<P: Pick>(
     })
 }
 
-/// Pumps the frames from these places on, and lets a message be received. It answers whether there was one, and up to which places
-/// frames are pumped then.
+/// Pumps the frames from these places on, and lets a message be received. It answers whether there was one, and up to
+/// which places frames are pumped then.
 fn pump_and_receive<P: Pick>(
     alloc: Global,
     at: Socket,
@@ -171,8 +172,8 @@ fn pump_and_receive<P: Pick>(
     Ok((is_message(&answer), ends))
 }
 
-/// Lets a message be sent, and where it was, pumps frames and lets a message be received. It answers whether there was one, and
-/// up to which places frames are pumped then.
+/// Lets a message be sent, and where it was, pumps frames and lets a message be received. It answers whether there was
+/// one, and up to which places frames are pumped then.
 fn turn<P: Pick>(
     alloc: Global,
     message: &WorldEvent,
@@ -193,8 +194,8 @@ fn turn<P: Pick>(
     pump_and_receive(alloc, at, places, world)
 }
 
-/// Makes so many turns at most, until no message is received. It answers in how many one was, and up to which places frames are
-/// pumped then.
+/// Makes so many turns at most, until no message is received. It answers in how many one was, and up to which places
+/// frames are pumped then.
 pub fn burst<P: Pick>(
     alloc: Global,
     times: u32,

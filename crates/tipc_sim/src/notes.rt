@@ -7,8 +7,8 @@ ghost use Rattle.tipc_sim.specs.Noted.{marked, no_notes, pumped, pumped_to};
 use std::marker::Model;
 use tipc_world::Places;
 
-/// What a script keeps beside the world: where it counts the frames of each bearer from, and how far it has pumped them.
-/// (This project's profile.)
+/// What a script keeps beside the world: where it counts the frames of each bearer from, and how far it has pumped
+/// them. (This project's profile.)
 #[derive(Drop)]
 pub struct Notes {
     bases: Places,

@@ -128,8 +128,8 @@ fn which_of(limit: Limit) -> Which
     }
 }
 
-/// Runs one line: does what it asks for and prints its answer, or tells that it is bad or reaches a limit. No answer is printed of a
-/// line before the first that is written.
+/// Runs one line: does what it asks for and prints its answer, or tells that it is bad or reaches a limit. No answer is
+/// printed of a line before the first that is written.
 fn run_line<K: Sink, P: Pick>(
     alloc: Global,
     from: u32,
@@ -316,9 +316,10 @@ fn run_generated<K: Sink, P: Pick>(
 
 /// Runs the script that a source holds, or the one that a number stands for, and writes its report to a sink.
 ///
-/// The forms are the word `run` alone, and `gen` and a number from 1 to 1,000. Under `run` the source is read to its end first; under
-/// `gen` nothing is read. Then each line is read, done and answered by a printed line before the next one. Under `gen` the line `gen` and
-/// the number is written first, and of the answers those from line 1,048 on. (This project's profile.)
+/// The forms are the word `run` alone, and `gen` and a number from 1 to 1,000. Under `run` the source is read to its
+/// end first; under `gen` nothing is read. Then each line is read, done and answered by a printed line before the next
+/// one. Under `gen` the line `gen` and the number is written first, and of the answers those from line 1,048 on. (This
+/// project's profile.)
 pub fn run<S: Source, K: Sink, P: Pick>(
     alloc: Global,
     words: &[String],

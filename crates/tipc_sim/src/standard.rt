@@ -84,7 +84,8 @@ fn run_live_buffered<R: Threads + Wait + Sync + time::Clock + Net, W: io::Write 
     ended.after_flush(writer.flush().is_ok())
 }
 
-/// Runs the script of standard input, or a plan live, where the program's arguments ask for it, and gives out what the run wrote.
+/// Runs the script of standard input, or a plan live, where the program's arguments ask for it, and gives out what the
+/// run wrote.
 ///
 /// The handle by which a live run may start threads and wait is the runtime's own, which it has in `main` alone.
 pub fn run_standard<R: Threads + Wait + Sync + time::Clock + Net>(

@@ -22,7 +22,8 @@ pub enum Status {
     Limit,
     /// A bearer of a live run failed, or a socket couldn't be bound.
     BearerFault,
-    /// The journals of a live run aren't those of a run of the world, or one doesn't show the plan and has no room for a call.
+    /// The journals of a live run aren't those of a run of the world, or one doesn't show the plan and has no room for
+    /// a call.
     Differ,
 }
 

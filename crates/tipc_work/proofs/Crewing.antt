@@ -322,7 +322,8 @@ has_worked tried given faults plan node l called after mover pass first second f
       (λ j. (unused.caller j, sym (ap (λ ps. slice_index_or ps plan.callers p) parts ∙ get_or_push called pass p plan.callers h.same) j)) moved;
 }
 
--- the last pass of a node, which is its mover's, was taken away: the callers' can be called with, and the mover can move
+-- the last pass of a node, which is its mover's, was taken away: the callers' can be called with, and the mover can
+-- move
 pub join_ready : (plan : LivePlan) (l : LockState) (passes front : List PassState) (last : Option PassState) (mover : PassState) → IsLivePlan plan → AreUnusedPasses plan l passes
     → passes ≡ front ++ option_to_list last → last ≡ Some mover → (AreCallers l front × (length front ≡ plan.callers) × (length front ≤ 8)) × IsUnusedPass l mover.caller mover
 join_ready plan l passes front last mover live unused parts is =

@@ -1,4 +1,5 @@
--- Calls that were made show the plan where each message's tries follow those of the one before, and how many these are is certain.
+-- Calls that were made show the plan where each message's tries follow those of the one before, and how many these are
+-- is certain.
 use Rattle.std.specs.List.{All}
 use Rattle.std.specs.Prelude.{nat_lt, slice_index_or}
 use Rattle.std.proofs.Common.{◌≡◌, ◌⊎◌, inl, inr, ℕ, zero, suc, ◌+◌, ◌-◌, ◌<◌, ◌≤◌, true, false, arith, List, [], ◌∷◌, ◌++◌, drop, length, length-append, map, refl, sym, subst, take, ◌∙◌, ap}
@@ -235,7 +236,8 @@ sends_front call number count made s = by s.tries s.messages s.each s.is
 
 -- ---- one message after the other
 
--- Calls are the tries of all messages just where those that are left, from the one of a number on, are the tries of the messages that are left.
+-- Calls are the tries of all messages just where those that are left, from the one of a number on, are the tries of the
+-- messages that are left.
 pub record LeavesSends (call : ℕ → EventNote) (messages number : ℕ) (made rest : List MadeCall) : Type 0 where
   pub on : AreSends call 0 messages (calls_made made) → AreSends call number (messages - number) (calls_made rest)
   pub back : AreSends call number (messages - number) (calls_made rest) → AreSends call 0 messages (calls_made made)

@@ -10,7 +10,8 @@ use Rattle.tipc_work.specs.Plans.{AreTries, ShowsCaller, sends_from}
 use Rattle.tipc_work.specs.declared.plans.LivePlan.{LivePlan}
 use Rattle.tipc_work.specs.Shown.{calls_made}
 
--- it is the same caller's, of the same node and the same stamps, and it stays marked where it was told that the journal is full
+-- it is the same caller's, of the same node and the same stamps, and it stays marked where it was told that the journal
+-- is full
 pub record IsSameCaller (p p' : PassState) : Type 0 where
   pub of_table : p'.seat.of_table ≡ p.seat.of_table
   pub own : p'.own ≡ p.own

@@ -1,4 +1,5 @@
--- What a mover does with the frames of its node's two bearers, told by the numbers that its pass, the bearers and the clock show.
+-- What a mover does with the frames of its node's two bearers, told by the numbers that its pass, the bearers and the
+-- clock show.
 use Rattle.std.specs.Prelude.{◌≡◌, ◌⊎◌, ◌+◌, ◌-◌, ◌^◌, ◌<◌, ◌≤◌, ◌++◌, ℕ, Bool, true, false, List, count_by, if◌then◌else◌}
 use Rattle.tipc_types.specs.declared.node_calls.EventNote.{EventNote}
 use Rattle.tipc_types.specs.declared.node_calls.EventNote.TheVariants.{Arrive, Tick}
@@ -34,7 +35,8 @@ ticks_made made = count_by (λ m. is_tick_call m.call) made
 
 -- ---- behind a run
 
--- As many frames arrived by a mover's calls as the two bearers gave, but where its pass is marked full or a count stands at its last value.
+-- As many frames arrived by a mover's calls as the two bearers gave, but where its pass is marked full or a count
+-- stands at its last value.
 abbrev pub HearsAllGiven : {B : Type 0} → (B → ℕ) → B → B → PassState → B → B → Type 0
 HearsAllGiven given first second p first' second' = p.full ≡ false → given first' < last_count → given second' < last_count
     → given first + given second + arrivals_made p.made ≡ given first' + given second'
@@ -50,7 +52,8 @@ pub record TellsFaults {B : Type 0} (faults : B → ℕ) (first second : B) (fai
   pub at_second : faults second ≤ faults second'
   pub rose : failed ≡ true → Rose (faults first) (faults first') ⊎ Rose (faults second) (faults second')
 
--- A mover's pass and its node's two bearers behind a run: the pass shows that the bearers were mended first, or is marked full.
+-- A mover's pass and its node's two bearers behind a run: the pass shows that the bearers were mended first, or is
+-- marked full.
 pub record HasMoved {B : Type 0} (tried given faults : B → ℕ) (l : LockState) (caller : ℕ) (first second : B)
     (p : PassState) (failed : Bool) (first' second' : B) : Type 0 where
   pub used : IsUsedPass l caller p
@@ -79,7 +82,8 @@ pub record AsksBearer {B : Type 0} (tried given faults : B → ℕ) (b : B) (fai
   pub later : faults b ≤ faults b'
   pub rose : failed' ≡ true → (failed ≡ true) ⊎ Rose (faults b) (faults b')
 
--- The two bearers of a node gave so many frames and were asked to send so many, but where a count stands at its last value.
+-- The two bearers of a node gave so many frames and were asked to send so many, but where a count stands at its last
+-- value.
 pub record CarriesFrames {B : Type 0} (tried given faults : B → ℕ) (heard sent : ℕ) (b b' : Bearers B) : Type 0 where
   pub gave : given b'.first < last_count → given b'.second < last_count
       → given b.first + given b.second + heard ≡ given b'.first + given b'.second
@@ -93,8 +97,8 @@ pub record CarriesFrames {B : Type 0} (tried given faults : B → ℕ) (heard se
   pub at_second : faults b.second ≤ faults b'.second
   pub rose : b'.failed ≡ true → (b.failed ≡ true) ⊎ (Rose (faults b.first) (faults b'.first) ⊎ Rose (faults b.second) (faults b'.second))
 
--- What a mover's steps make of it: its calls go on, and are as many arrivals as the bearers gave frames, but where its pass is marked full; and
--- the bearers were asked to send the frames that it was handed.
+-- What a mover's steps make of it: its calls go on, and are as many arrivals as the bearers gave frames, but where its
+-- pass is marked full; and the bearers were asked to send the frames that it was handed.
 pub record CarriesOn {B C : Type 0} (tried given faults : B → ℕ) (m m' : Mover B C) : Type 0 where
   pub heard : ℕ
   pub sent : ℕ

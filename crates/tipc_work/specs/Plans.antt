@@ -25,7 +25,8 @@ port_made other = 0
 abbrev pub publishing : ℕ → ℕ → ℕ → EventNote
 publishing node caller port = Publish port (record { kind = 2000 + node; lower = caller; upper = caller }) Cluster caller
 
--- it sends each message to the caller with its number at the next node, behind the last of which is the first: 8 bytes, the message's number
+-- it sends each message to the caller with its number at the next node, behind the last of which is the first: 8 bytes,
+-- the message's number
 abbrev pub named_send : LivePlan → ℕ → ℕ → ℕ → ℕ → EventNote
 named_send plan node caller port number = SendName port (2000 + (node % plan.nodes + 1)) caller Low (to_be_bytes w64 number)
 
@@ -35,8 +36,8 @@ is_again answer.NoName = true
 is_again (answer.Congested in_flight waiting) = true
 is_again other = false
 
--- The answers to the tries of one message, which are 1,000 at most: each but the last says to try again, and so does the last only where
--- there are 1,000.
+-- The answers to the tries of one message, which are 1,000 at most: each but the last says to try again, and so does
+-- the last only where there are 1,000.
 pub record AreTries (answers : List Answer) : Type 0 where
   pub before : List Answer
   pub last : Answer
@@ -50,7 +51,8 @@ abbrev pub sends_from : (ℕ → EventNote) → ℕ → List (List Answer) → L
 sends_from call number [] = []
 sends_from call number (answers ∷ tries) = map (λ a. (call number, a)) answers ++ sends_from call (number + 1) tries
 
--- The calls of a caller, with their answers, show its part of the plan: it makes a socket, publishes itself, and sends its messages.
+-- The calls of a caller, with their answers, show its part of the plan: it makes a socket, publishes itself, and sends
+-- its messages.
 pub record ShowsCaller (plan : LivePlan) (node caller : ℕ) (calls : List (EventNote × Answer)) : Type 0 where
   pub made : Answer
   pub published : Answer

@@ -6,8 +6,8 @@ use Rattle.tipc_types.specs.declared.node_calls.EventNote.{EventNote}
 use Rattle.tipc_node_lock.specs.declared.passes.MadeCall.{MadeCall}
 use Rattle.tipc_work.specs.Plans.{AreTries, is_again, sends_from}
 
--- The first calls, so many of them, are all the tries of one message: each is that call, and each before the last was answered so that the message
--- is tried again. So was the last only where there are 1,000.
+-- The first calls, so many of them, are all the tries of one message: each is that call, and each before the last was
+-- answered so that the message is tried again. So was the last only where there are 1,000.
 pub record BeginWithTries (call : EventNote) (made : List MadeCall) (count : ℕ) : Type 0 where
   pub before : ℕ
   pub is : count ≡ before + 1

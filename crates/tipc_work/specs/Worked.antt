@@ -18,7 +18,8 @@ pub record HaveCalled (plan : LivePlan) (node : ℕ) (l : LockState) (count : �
   pub same : length passes ≡ count
   pub each : (i : ℕ) (p : PassState) → i < count → HasCalled plan node (i + 1) l (slice_index_or passes i p)
 
--- the passes of a node's lock before a run: one for each caller, in order, and a last one for the mover, none of them used
+-- the passes of a node's lock before a run: one for each caller, in order, and a last one for the mover, none of them
+-- used
 pub record AreUnusedPasses (plan : LivePlan) (l : LockState) (passes : List PassState) : Type 0 where
   pub count : length passes ≡ plan.callers + 1
   pub each : AreCallers l passes
@@ -42,7 +43,8 @@ pub record CanWork (plan : LivePlan) (locks : List LockState) (passes : List (Li
   pub unused : (i : ℕ) (l : LockState) (ps : List PassState) → i < plan.nodes
       → AreUnusedPasses plan (slice_index_or locks i l) (slice_index_or passes i ps)
 
--- What all nodes' passes and bearers show behind a run, in the same order. Where a bearer was seen to fail, a count of faults rose.
+-- What all nodes' passes and bearers show behind a run, in the same order. Where a bearer was seen to fail, a count of
+-- faults rose.
 pub record HaveWorked {B : Type 0} (tried given faults : B → ℕ) (plan : LivePlan) (locks : List LockState) (bearers : List B)
     (passes : List (List PassState)) (failed : Bool) (bearers' : List B) : Type 0 where
   pub pass_count : length passes ≡ plan.nodes

@@ -18,9 +18,9 @@ use tipc_types::{EventNote, NoMemory};
 /// How often a message is tried at most. (This project's profile.)
 pub(crate) const MOST_TRIES: u32 = 1_000;
 
-/// Sends a message from a port, again as long as nobody has the name yet or too many packets wait, and receives once behind each try.
-/// Answers whether the journal had room for all of it. A message that isn't sent in 1,000 tries is given up, which the answer doesn't
-/// tell.
+/// Sends a message from a port, again as long as nobody has the name yet or too many packets wait, and receives once
+/// behind each try. Answers whether the journal had room for all of it. A message that isn't sent in 1,000 tries is
+/// given up, which the answer doesn't tell.
 #[tactic(auto, using(crate::proofs::Sending::full_so, crate::proofs::Sending::sent_so, crate::proofs::Sending::tried_most, crate::proofs::Carrying::same_then))]
 fn send_one<R: Wait, P: Pick, G: Gate>(
     rt: &R,
@@ -75,7 +75,8 @@ fn send_all<R: Wait, P: Pick, G: Gate>(
     Ok(true)
 }
 
-/// Follows the plan: makes a socket, publishes itself there, and sends its messages. Answers whether the journal had room for that.
+/// Follows the plan: makes a socket, publishes itself there, and sends its messages. Answers whether the journal had
+/// room for that.
 #[tactic(auto, using(crate::proofs::Sending::full_so, crate::proofs::Sending::plan_followed, crate::proofs::Carrying::same_then))]
 fn follow_plan<R: Wait, P: Pick, G: Gate>(
     rt: &R,

@@ -20,7 +20,8 @@ use tipc_outside::{Bearer, Clock, Gate};
 use tipc_pick::Pick;
 use tipc_types::NoMemory;
 
-/// What the callers and the mover of one node work with: their passes, the mover's last, and the mover's bearers and clock.
+/// What the callers and the mover of one node work with: their passes, the mover's last, and the mover's bearers and
+/// clock.
 #[derive(Drop)]
 pub(crate) struct Crew<B, C> {
     pub(crate) place: usize,

@@ -1,5 +1,5 @@
-//! The callers and movers of a live run, each in a thread of its own: callers follow a plan over the locked nodes, and a mover of each node
-//! carries frames between the node and its bearers.
+//! The callers and movers of a live run, each in a thread of its own: callers follow a plan over the locked nodes, and
+//! a mover of each node carries frames between the node and its bearers.
 //!
 //! - `plans` (how many call, and what each of them calls), `workers` (what callers and movers call with, and where).
 //! - `callers` (what a caller does), `movers` (what the mover of a node does).

@@ -47,7 +47,8 @@ pub(crate) struct Moved<B> {
     pub(crate) failed: bool,
 }
 
-/// Looks at a bearer once: whether it gave a frame, which stands in `frame` then. A bearer that fails or finds no memory gave none.
+/// Looks at a bearer once: whether it gave a frame, which stands in `frame` then. A bearer that fails or finds no
+/// memory gave none.
 #[tactic(auto, using(crate::proofs::Carrying::looks_frame, crate::proofs::Carrying::looks_nothing, crate::proofs::Carrying::looks_short, crate::proofs::Carrying::looks_failed))]
 fn look<B: Bearer>(bearer: &mut B, frame: &mut Vec<u8>, failed: &mut bool) -> bool
     ensures { LooksAtBearer B.tried B.given B.faults bearer.old failed.old result bearer.new failed.new }
@@ -248,7 +249,8 @@ impl<B, C: Clock> Mover<B, C> {
 }
 
 impl<B: Bearer, C: Clock> Mover<B, C> {
-    /// Takes a turn: hears what each bearer has, ticks where the clock went on, and sends what is to leave. Answers whether a frame came or left.
+    /// Takes a turn: hears what each bearer has, ticks where the clock went on, and sends what is to leave. Answers
+    /// whether a frame came or left.
     #[tactic(auto, using(crate::proofs::Carrying::turn_goes, crate::proofs::Carrying::turn_ticks))]
     fn turn<R: Wait, P: Pick, G: Gate>(
         &mut self,
@@ -270,7 +272,8 @@ impl<B: Bearer, C: Clock> Mover<B, C> {
         Ok(first || second || left)
     }
 
-    /// Takes its turns, until all callers have ended and some turns more. It yields its thread where no frame came or left.
+    /// Takes its turns, until all callers have ended and some turns more. It yields its thread where no frame came or
+    /// left.
     #[tactic(auto, using(crate::proofs::Carrying::goes_none, crate::proofs::Carrying::goes_then))]
     fn go_on<R: Wait, P: Pick, G: Gate>(
         &mut self,
@@ -298,7 +301,8 @@ impl<B: Bearer, C: Clock> Mover<B, C> {
     }
 }
 
-/// Mends a node's bearers and carries frames between them and the node, until all callers have ended; then gives pass and bearers back.
+/// Mends a node's bearers and carries frames between them and the node, until all callers have ended; then gives pass
+/// and bearers back.
 ///
 /// # Errors
 ///

@@ -46,7 +46,8 @@ fn take_seats(
     Ok(seats)
 }
 
-/// The nodes of a plan in their first boot, each behind a lock, with a chooser for each, and a new seat for each caller and each mover.
+/// The nodes of a plan in their first boot, each behind a lock, with a chooser for each, and a new seat for each caller
+/// and each mover.
 ///
 /// # Errors
 ///

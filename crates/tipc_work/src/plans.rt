@@ -8,7 +8,8 @@ ghost use Rattle.tipc_work.specs.Plans.{IsLivePlan, is_again, port_made, publish
 use std::alloc::Global;
 use tipc_types::{Answer, Body, EventNote, Importance, NoMemory, Scope, ServiceRange};
 
-/// How many nodes a live run has, how many callers each of them, and how many messages each caller sends. (This project's profile.)
+/// How many nodes a live run has, how many callers each of them, and how many messages each caller sends. (This
+/// project's profile.)
 #[derive(Clone, Copy, Debug, PartialEq, Eq)]
 pub struct LivePlan {
     /// Whether the bearers are sockets of UDP, and not a medium in memory.

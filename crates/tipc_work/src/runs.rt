@@ -136,12 +136,13 @@ fn work_each<
     Ok(all_of(run.alloc, worked)?)
 }
 
-/// Runs the plan: the callers of all nodes follow it, and a mover of each node mends its bearers and carries frames between them and the node
-/// until all callers have ended, each in a thread of its own where one can be made. There are, in order of the nodes, their locks, lists of
-/// passes and clocks, and two bearers for each. The last pass of a node is its mover's.
+/// Runs the plan: the callers of all nodes follow it, and a mover of each node mends its bearers and carries frames
+/// between them and the node until all callers have ended, each in a thread of its own where one can be made. There
+/// are, in order of the nodes, their locks, lists of passes and clocks, and two bearers for each. The last pass of a
+/// node is its mover's.
 ///
-/// Caller c of node n, from 1, has the number 16 (n - 1) + c at the gate, and its mover has 16 (n - 1). Each passes it before each locked call
-/// and counts those from 0. (This project's profile.)
+/// Caller c of node n, from 1, has the number 16 (n - 1) + c at the gate, and its mover has 16 (n - 1). Each passes it
+/// before each locked call and counts those from 0. (This project's profile.)
 ///
 /// That it comes back isn't promised.
 ///

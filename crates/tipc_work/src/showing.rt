@@ -18,7 +18,8 @@ fn is_same(one: &EventNote, other: &EventNote) -> bool
     *one == *other
 }
 
-/// How many of these calls, from the first on, are the tries of a message that this call sends; None where they don't begin with all its tries.
+/// How many of these calls, from the first on, are the tries of a message that this call sends; None where they don't
+/// begin with all its tries.
 fn tries_of(call: &EventNote, made: &[MadeCall]) -> Option<usize>
     ensures some { IfSome result (BeginWithTries call.now made.now) }
     ensures within { IfSome result (λ count. count ≤ length made.now) }

@@ -76,7 +76,8 @@ impl<'a, 'w, 's, P, G> Post<'a, 'w, 's, P, G> {
         self.at_work.load(Ordering::SeqCst) == 0
     }
 
-    /// The number that a caller of the node has at the gate; that of the mover is the number of caller 0. (This project's profile.)
+    /// The number that a caller of the node has at the gate; that of the mover is the number of caller 0. (This
+    /// project's profile.)
     fn number_at_gate(&self, caller: u32) -> u32
         requires { caller ≤ 8 }
     {

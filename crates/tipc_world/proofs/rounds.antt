@@ -1,4 +1,5 @@
--- What a call that settles is, number by number: what each number keeps, that each node ticks once a round, and that each frame arrives once.
+-- What a call that settles is, number by number: what each number keeps, that each node ticks once a round, and that
+-- each frame arrives once.
 pub mod Parts
 pub mod RoundParts
 pub mod Events

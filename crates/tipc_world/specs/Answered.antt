@@ -1,4 +1,5 @@
--- What is promised of the calls of all nodes in all their boots: how they are counted and stamped, and where messages by name go.
+-- What is promised of the calls of all nodes in all their boots: how they are counted and stamped, and where messages
+-- by name go.
 use Rattle.std.specs.Prelude.{◌≡◌, ◌<◌, ℕ, zero, suc, ◌+◌, ◌%◌, ◌^◌, List, Option, Some, None, length, slice_get, slice_index_or, sum_by}
 use Rattle.std.specs.List.{All}
 use Rattle.tipc_pick.specs.Choosing.{Choosing}

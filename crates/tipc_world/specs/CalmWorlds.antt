@@ -29,6 +29,7 @@ pub record IsSaidBy (start : WorldState) (bearer : ℕ) (f : Sent) (s d : ℕ) :
 abbrev pub IsFromMended : WorldState → ℕ → Sent → Type 0
 IsFromMended start bearer f = (s d : ℕ) → IsNumber s → IsNumber d → s ≢ d → goes s d f ≡ true → IsSaidBy start bearer f s d
 
--- A world is calm since a call began: it goes on from there, each two nodes are calm, and so says each frame that was sent since.
+-- A world is calm since a call began: it goes on from there, each two nodes are calm, and so says each frame that was
+-- sent since.
 abbrev pub IsCalmWorld : WorldState → WorldState → Type 0
 IsCalmWorld start w = Guards start (ends_of start.air) (IsCalmNode start) (IsFromMended start) w

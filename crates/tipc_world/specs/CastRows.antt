@@ -1,5 +1,5 @@
--- What the rounds of a call make of a broadcast packet that has its number, whatever was lost before: all nodes in contact with its sender take it, and it is
--- released after four of them.
+-- What the rounds of a call make of a broadcast packet that has its number, whatever was lost before: all nodes in
+-- contact with its sender take it, and it is released after four of them.
 use Rattle.std.specs.Prelude.{◌≡◌, ◌⊎◌, ◌≤◌, ◌+◌, ◌-◌, ◌*◌, ℕ, true, false, All, None, Some, slice_get, slice_index_or}
 use Rattle.tipc_types.specs.Address.{node_word}
 use Rattle.tipc_types.specs.Limits.{window_size}
@@ -63,7 +63,8 @@ pub record MemberIs (w : WorldState) (P : Casting → Contact → Type 0) (a b :
   pub kept_is : contact_with (node_word a) member.node.casting.contacts ≡ Some kept
   pub so : P caster.node.casting kept
 
--- A receive window wants the packet behind position x of what the sender accepted in its boot. A number is told from others by where the sender stands.
+-- A receive window wants the packet behind position x of what the sender accepted in its boot. A number is told from
+-- others by where the sender stands.
 pub record Wants (v : Casting) (r : Receiving) (x : ℕ) : Type 0 where
   pub number : number_of (x + 1) ≡ number_of r.wanted
   pub low : acked_of v.sending ≤ x
@@ -110,8 +111,9 @@ pub record CastIsOnItsWay (places : Places) (w : WorldState) (a b bearer positio
 
 -- ---- a round
 
--- What one round makes of the packet at a position of node a's broadcast, at a node b to which node a's link on a bearer is up. Node b is shown that it has a
--- number; it asks for it, and the packet is released, or was taken, or is sent again; it is taken; and it is acknowledged. None of this is undone in a later round.
+-- What one round makes of the packet at a position of node a's broadcast, at a node b to which node a's link on a
+-- bearer is up. Node b is shown that it has a number; it asks for it, and the packet is released, or was taken, or is
+-- sent again; it is taken; and it is acknowledged. None of this is undone in a later round.
 pub record RoundCasts (places : Places) (outset : WorldState) (ends : Places) (now : WorldState) (a b bearer position : ℕ) : Type 0 where
   pub shows : CastsAs outset (IsCastAwaited position) a → MemberIs now (IsCastKnown position) a b
   pub asks : CastsAs outset (IsCastAwaited position) a → MemberIs outset (IsCastKnown position) a b

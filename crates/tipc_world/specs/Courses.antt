@@ -11,8 +11,8 @@ use Rattle.tipc_world.specs.Merged.{merged, recorded_by, AddsAtFault}
 use Rattle.tipc_replay.specs.Skies.{air_on}
 use Rattle.tipc_world.specs.States.{WorldState, WorldView, is_there}
 
--- What events come to that begin in one world and end in another: all of them happened, which gives a value; or a front of them happened,
--- and then a limit stopped the next one, or memory ran out.
+-- What events come to that begin in one world and end in another: all of them happened, which gives a value; or a front
+-- of them happened, and then a limit stopped the next one, or memory ran out.
 abbrev pub Course : Type 0 → Type 1
 Course A = WorldState → Result A WorldFault → WorldState → Type 0
 
@@ -27,12 +27,14 @@ pub record Continues {P : Type 0} (gives : P → ℕ → ℕ → ℕ → Type 0)
   pub grown : Grows old.state new.state
   pub good : IsGood gives old → IsGood gives new
 
--- an event happened with this answer; where it is a call, its step stands behind those of all calls before, with the answer
+-- an event happened with this answer; where it is a call, its step stands behind those of all calls before, with the
+-- answer
 pub record HasHappened (start : WorldState) (event : WorldEvent) (now : WorldState) (answer : Answer) : Type 0 where
   pub answered : IsAnswered start event now answer
   pub recorded : merged now ≡ merged start ++ recorded_by start event answer
 
--- an event has no answer: a limit or want of memory stopped it, and no step was recorded; or it took the air past its limit
+-- an event has no answer: a limit or want of memory stopped it, and no step was recorded; or it took the air past its
+-- limit
 pub record HasStopped (start : WorldState) (event : WorldEvent) (now : WorldState) (stop : WorldFault) : Type 0 where
   pub stops : Stops start event now stop
   pub recorded : AddsAtFault start event now stop
@@ -61,7 +63,8 @@ numbers = 33
 abbrev pub Takes : Asks → ℕ → Course Bool
 Takes asks number start came now = Maybe (asks start number) start came now
 
--- The numbers from the first up to the next were taken in order, each in the world that the one before left, and so many events happened.
+-- The numbers from the first up to the next were taken in order, each in the world that the one before left, and so
+-- many events happened.
 pub data Goes (asks : Asks) (first : ℕ) (start : WorldState) : ℕ → ℕ → WorldState → Type 0 where
   begin : Goes asks first start first 0 start
   go_on : (next count : ℕ) (before : WorldState) (made : Bool) (now : WorldState)
@@ -86,7 +89,8 @@ abbrev pub TakesCounted : Asks → ℕ → ℕ → Course ℕ
 TakesCounted asks first end start (Ok count) now = Goes asks first start end count now
 TakesCounted asks first end start (Err stop) now = (halts : Halts asks first start stop now) × (halts.next < end)
 
--- the numbers of the places of a bearer's air are taken from the first on, until none is left; the value is how many events happened
+-- the numbers of the places of a bearer's air are taken from the first on, until none is left; the value is how many
+-- events happened
 abbrev pub Drains : Asks → ℕ → ℕ → Course ℕ
 Drains asks bearer first start (Ok count) now = (end : ℕ) × (numbers * length (air_on bearer now.air) ≤ end) × Goes asks first start end count now
 Drains asks bearer first start (Err stop) now = Halts asks first start stop now

@@ -1,4 +1,5 @@
--- One direction of a link between two nodes of a world: what its sender and its receiver have of a packet, by the packet's position in the session.
+-- One direction of a link between two nodes of a world: what its sender and its receiver have of a packet, by the
+-- packet's position in the session.
 use Rattle.std.specs.Prelude.{◌≡◌, ◌+◌, ◌≤◌, ◌<◌, ℕ, true, List, None, Some, slice_get, slice_index_or}
 use Rattle.tipc_types.specs.Position.{number_of}
 use Rattle.tipc_header.specs.declared.frames.FrameKind.TheVariants.{Links}
@@ -52,7 +53,8 @@ HasBeenShown position r = position < r.shown
 
 -- ---- between them
 
--- A frame of node a to node b carries the packet at a position, under the epochs that both had on the bearer when the call began.
+-- A frame of node a to node b carries the packet at a position, under the epochs that both had on the bearer when the
+-- call began.
 pub record BringsPacket (start : WorldState) (a b bearer position : ℕ) (f : Sent) : Type 0 where
   pub packet : Fields
   pub from : IsFrom a f.frame ((footing_at start a b).epoch bearer) ((footing_at start b a).epoch bearer) packet

@@ -22,7 +22,8 @@ pub record SaysToPeer (b : ℕ) (o : Outgoing) (es er : ℕ) : Type 0 where
   pub kind : kind_in o.frame ≡ Links
   pub said : IsSaidByTicks packet.header
 
--- So far in a call, from some places on: nothing went up or down since it began, each node has heard all others, and the frames that arrive next are young.
+-- So far in a call, from some places on: nothing went up or down since it began, each node has heard all others, and
+-- the frames that arrive next are young.
 pub record StandsCalm (start : WorldState) (places : Places) (now : WorldState) : Type 0 where
   pub calm : IsCalmWorld start now
   pub heard : EachNode HasHeardAll now

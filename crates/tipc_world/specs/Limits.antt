@@ -12,7 +12,8 @@ use Rattle.tipc_replay.specs.States.{MemberState}
 use Rattle.tipc_world.specs.States.{WorldState}
 use Rattle.tipc_world.specs.Steps.{IsStep}
 
--- no limit keeps an event from happening: where it counts, fewer than 300,000 have happened; where it is a call, the node's journal has room
+-- no limit keeps an event from happening: where it counts, fewer than 300,000 have happened; where it is a call, the
+-- node's journal has room
 pub record IsFree (members : List (Option MemberState)) (air : AirState) (events : ℕ) (event : WorldEvent) : Type 0 where
   pub below : counts_at members air event ≡ true → events < 300000
   pub room : is_call_at members air event ≡ true → has_room_at members (node_of event) ≡ true

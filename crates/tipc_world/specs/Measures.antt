@@ -1,5 +1,5 @@
--- What is under way in a world, by weight: each packet counts once, and what was accepted and isn't delivered yet by what may come of it (tipc_settling
--- specs/Loads).
+-- What is under way in a world, by weight: each packet counts once, and what was accepted and isn't delivered yet by
+-- what may come of it (tipc_settling specs/Loads).
 use Rattle.std.specs.Prelude.{◌≡◌, ◌≤◌, ◌<◌, ◌+◌, ℕ, false, length}
 use Rattle.tipc_broadcast.specs.Casting.{Casting}
 use Rattle.tipc_link.specs.Sessions.{SessionEnd}
@@ -22,11 +22,13 @@ weight_put m = node_packets m.node + accepted_weight m.node.journal
 abbrev pub weight_given : MemberState → ℕ
 weight_given m = delivered_weight m.node.journal
 
--- No more is under way than at an earlier moment: of all nodes together the packets and what they accepted grew by no more than what was delivered.
+-- No more is under way than at an earlier moment: of all nodes together the packets and what they accepted grew by no
+-- more than what was delivered.
 abbrev pub NoMoreIsUnderWay : WorldState → WorldState → Type 0
 NoMoreIsUnderWay start now = GrowsNoMore weight_put weight_given start now
 
--- What was ever put on the links of a node that are up, the packets that are under way on its broadcast link, and the weight of what it accepted.
+-- What was ever put on the links of a node that are up, the packets that are under way on its broadcast link, and the
+-- weight of what it accepted.
 abbrev pub weight_ever : MemberState → ℕ
 weight_ever m = node_sum put_into under_way m.node + accepted_weight m.node.journal
 
@@ -42,7 +44,8 @@ LessIsUnderWay start now = total_of weight_put now + total_of weight_given start
 abbrev pub HasUnacknowledged : SessionEnd → Type 0
 HasUnacknowledged s = 1 ≤ length s.sending.unacked
 
--- The packets that are under way on the links of a node that are up, what was ever put on its broadcast link, and the weight of what it accepted.
+-- The packets that are under way on the links of a node that are up, what was ever put on its broadcast link, and the
+-- weight of what it accepted.
 abbrev pub weight_cast : MemberState → ℕ
 weight_cast m = node_sum under_way put_into m.node + accepted_weight m.node.journal
 

@@ -69,8 +69,8 @@ pub record IsMade (members : List (Option MemberState)) (stamp : ℕ) (call : Re
   pub stamp_is : step.by.stamp ≡ stamp
   pub call_is : call_in call.node step ≡ call
 
--- These calls are the steps of all nodes in all their boots in order of their stamps: they are as many as were recorded, each step
--- stands at the place of its stamp, and each call is that of such a step.
+-- These calls are the steps of all nodes in all their boots in order of their stamps: they are as many as were
+-- recorded, each step stands at the place of its stamp, and each call is that of such a step.
 pub record AreMerged (members : List (Option MemberState)) (recorded : ℕ) (calls : List Recorded) : Type 0 where
   pub count : length calls ≡ recorded
   pub stand : (n boot : ℕ) (s : NodeStep) → HasStep members n boot s → slice_get calls s.by.stamp ≡ Some (call_in n s)
@@ -78,8 +78,9 @@ pub record AreMerged (members : List (Option MemberState)) (recorded : ℕ) (cal
 
 -- ---- what an event adds
 
--- What an event that is answered so adds to them: a call of a node itself, with the answer that its journal keeps; and an arrival that
--- counts, by the number of the frames that arrived at the node before. Nothing else is recorded as a call.
+-- What an event that is answered so adds to them: a call of a node itself, with the answer that its journal keeps; and
+-- an arrival that counts, by the number of the frames that arrived at the node before. Nothing else is recorded as a
+-- call.
 abbrev pub recorded_by : WorldState → WorldEvent → Answer → List Recorded
 recorded_by w (Call node call) answered = record { node = node; call = call; answer = kept_answer answered } ∷ []
 recorded_by w (Arrive node bearer frame) answered =
@@ -88,8 +89,8 @@ recorded_by w (Arrive node bearer frame) answered =
     else []
 recorded_by w other answered = []
 
--- Where an event has no answer, nothing is added to them; but one that takes the air past its limit happened, and is added with the answer
--- that it had.
+-- Where an event has no answer, nothing is added to them; but one that takes the air past its limit happened, and is
+-- added with the answer that it had.
 abbrev pub AddsAtFault : WorldState → WorldEvent → WorldState → WorldFault → Type 0
 AddsAtFault old event new (fault.Limit limit.Frames) =
     (answered : Answer) × IsStep old event new answered × (merged new ≡ merged old ++ recorded_by old event answered)

@@ -1,4 +1,5 @@
--- When a world is poised to settle and stays so, what is under way in it, and when it stands at the beginning of coming up.
+-- When a world is poised to settle and stays so, what is under way in it, and when it stands at the beginning of coming
+-- up.
 use Rattle.std.specs.Prelude.{◌≡◌, ◌≢◌, ◌⊎◌, ◌≤◌, ℕ, ◌+◌, ◌-◌, true, false, List, Option, None, Some, length, sum_by}
 use Rattle.tipc_types.specs.LinkStates.{is_up}
 use Rattle.tipc_types.specs.declared.message_forms.Flow.{Flow}
@@ -26,8 +27,8 @@ pub record ShareContact (members : List (Option MemberState)) (a b : ℕ) : Type
   pub here : contact_at members a b ≡ Some numbers
   pub there : contact_at members b a ≡ Some (numbers.1, numbers.0)
 
--- The link between two nodes on a bearer stands: both its ends are up, each knows the other's present epoch, neither was silent for 4 ticks, and
--- the two nodes are in the same contact.
+-- The link between two nodes on a bearer stands: both its ends are up, each knows the other's present epoch, neither
+-- was silent for 4 ticks, and the two nodes are in the same contact.
 pub record LinkStands (members : List (Option MemberState)) (a b bearer : ℕ) : Type 0 where
   pub near : LinkEnd
   pub far : LinkEnd
@@ -37,7 +38,8 @@ pub record LinkStands (members : List (Option MemberState)) (a b bearer : ℕ) :
   pub far_up : IsUpTowards far near
   pub contact : ShareContact members a b
 
--- It is cut: each of its ends is down or wasn't made, and the bearer is cut at one of the two nodes. A held end is down.
+-- It is cut: each of its ends is down or wasn't made, and the bearer is cut at one of the two nodes. A held end is
+-- down.
 pub record LinkIsCut (members : List (Option MemberState)) (a b bearer : ℕ) : Type 0 where
   pub near : is_link_up_at members a b bearer ≡ false
   pub far : is_link_up_at members b a bearer ≡ false
@@ -48,8 +50,8 @@ abbrev pub IsPoised : WorldState → Type 0
 IsPoised w = (a b bearer : ℕ) → has_member w.members a ≡ true → has_member w.members b ≡ true → a ≢ b → bearer ≤ 1
     → LinkStands w.members a b bearer ⊎ LinkIsCut w.members a b bearer
 
--- From one moment to a later one a world stays poised: it is poised then too, each link end is up just where it was, and each two nodes are in the
--- contact in which they were.
+-- From one moment to a later one a world stays poised: it is poised then too, each link end is up just where it was,
+-- and each two nodes are in the contact in which they were.
 pub record StaysPoised (old new : WorldState) : Type 0 where
   pub poised : IsPoised new
   pub links : (a b bearer : ℕ) → bearer ≤ 1 → is_link_up_at new.members a b bearer ≡ is_link_up_at old.members a b bearer

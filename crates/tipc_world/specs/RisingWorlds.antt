@@ -34,8 +34,8 @@ pub record IsRisingPair (own peer : Footing) (most : ℕ) (x : PairEnds) : Type 
 abbrev pub IsRisingNode : WorldState → ℕ → ℕ → MemberState → Type 0
 IsRisingNode start most n m = (b : ℕ) → IsNumber b → n ≢ b → IsRisingPair (footing_at start n b) (footing_at start b n) most (pair_with m.node b)
 
--- A world rises since a call began: it goes on from there, each two nodes are still and weren't silent for long, and each frame that was sent since
--- shows what its sender has at present, and was sent on a mended bearer.
+-- A world rises since a call began: it goes on from there, each two nodes are still and weren't silent for long, and
+-- each frame that was sent since shows what its sender has at present, and was sent on a mended bearer.
 abbrev pub IsRisingWorld : WorldState → ℕ → WorldState → Type 0
 IsRisingWorld start most w = Guards start (ends_of start.air) (IsRisingNode start most) (IsFromMended start) w
 
@@ -43,8 +43,9 @@ IsRisingWorld start most w = Guards start (ends_of start.air) (IsRisingNode star
 abbrev pub left_as : ℕ → Sent → Outgoing
 left_as bearer f = record { bearer = bearer; to = f.to; frame = f.frame }
 
--- Each link that is up is answered by the other end, and its bearer is mended there. And of each frame that was sent since the call began, and is an
--- ACTIVATE that shows the present epoch of its receiver, the end of its sender answers that.
+-- Each link that is up is answered by the other end, and its bearer is mended there. And of each frame that was sent
+-- since the call began, and is an ACTIVATE that shows the present epoch of its receiver, the end of its sender answers
+-- that.
 pub record AreUpsAnswered (start w : WorldState) : Type 0 where
   pub ups : (a b bearer : ℕ) (m k : MemberState) → slice_index_or w.members a None ≡ Some m → slice_index_or w.members b None ≡ Some k → a ≢ b → bearer ≤ 1
       → is_up_at (facing bearer (pair_with m.node b)).near ≡ true

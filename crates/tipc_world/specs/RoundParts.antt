@@ -38,8 +38,8 @@ pub record PartsAt (asks : Asks) (first number end : ℕ) (start now : WorldStat
   pub later : ℕ
   pub rest : Goes asks (number + 1) after end later now
 
--- A round in its parts: every node ticks, in order of address; then the frames arrive that are in the air of bearer 0 from a place on, and
--- then those of bearer 1.
+-- A round in its parts: every node ticks, in order of address; then the frames arrive that are in the air of bearer 0
+-- from a place on, and then those of bearer 1.
 pub record IsRound (places : Places) (start : WorldState) (ends : Places) (now : WorldState) : Type 0 where
   pub ticked : WorldState
   pub ticks : ℕ
@@ -66,7 +66,8 @@ pub record PartsAtRound (start : WorldState) (made rounds : ℕ) (places : Place
 
 -- ---- an event that loses no frame
 
--- An event happened at its node, every other node is as it was, and all frames that left stand in the air behind those that stood there.
+-- An event happened at its node, every other node is as it was, and all frames that left stand in the air behind those
+-- that stood there.
 pub record HappensWhole (old new : WorldState) (event : WorldEvent) (bytes : List ℕ) (answered : Answer) : Type 0 where
   pub happened : IsAnswered old event new answered
   pub before : MemberState
@@ -100,7 +101,8 @@ pub record FrameArrives (from : Places) (old new : WorldState) : Type 0 where
   pub fresh : age_of old.members frame node bearer ≤ most_age
   pub arrives : HappensWhole old new (Arrive node bearer place) frame.frame answered
 
--- What a number of a round comes to, where frames arrive from some places on: nothing; a node ticks; or a frame arrives.
+-- What a number of a round comes to, where frames arrive from some places on: nothing; a node ticks; or a frame
+-- arrives.
 pub data RoundStep (from : Places) (old new : WorldState) : Type 0 where
   idles : new ≡ old → RoundStep from old new
   one_ticks : (node : ℕ) (answered : Answer) → HappensWhole old new (Call node call.Tick) [] answered → RoundStep from old new
@@ -113,8 +115,9 @@ pub record IsKept (w : WorldState) : Type 0 where
   pub nodes : AreNodesSteady w.members w.air
   pub counts : IsSteady w.members w.events w.stamps
 
--- From one moment of a call that settles up to a later one: the same nodes are there, each in its boot and with the bearers mended that were; all
--- that was sent and that happened stays; and the later world keeps what the one before kept.
+-- From one moment of a call that settles up to a later one: the same nodes are there, each in its boot and with the
+-- bearers mended that were; all that was sent and that happened stays; and the later world keeps what the one before
+-- kept.
 pub record SettlesOn (start now : WorldState) : Type 0 where
   pub nodes : (n : ℕ) → is_there now n ≡ is_there start n
   pub boots : (n : ℕ) → boot_at now.members n ≡ boot_at start.members n
@@ -123,7 +126,8 @@ pub record SettlesOn (start now : WorldState) : Type 0 where
   pub whole : start.lost ≡ false
   pub kept : IsKept start → IsKept now
 
--- So many rounds on, a world goes on from the begin; and the places from which frames arrive next stand between the ends of both airs.
+-- So many rounds on, a world goes on from the begin; and the places from which frames arrive next stand between the
+-- ends of both airs.
 pub record GoesByRounds (start : WorldState) (places : Places) (now : WorldState) : Type 0 where
   pub on : SettlesOn start now
   pub behind : AreBefore (ends_of start.air) places
@@ -153,8 +157,9 @@ pub record Guards (start : WorldState) (from : Places) (P : ℕ → MemberState 
 
 -- ---- once for each node, and once for each frame
 
--- Node n ticked once in the tick part of a round. Up to its turn it stayed as it was at the beginning, and from then on as it is at the end. Each
--- frame that left it stands in the air, the k-th of a bearer at the k-th place behind those that stood there at its turn.
+-- Node n ticked once in the tick part of a round. Up to its turn it stayed as it was at the beginning, and from then on
+-- as it is at the end. Each frame that left it stands in the air, the k-th of a bearer at the k-th place behind those
+-- that stood there at its turn.
 pub record HasTickedOnce (start now : WorldState) (n : ℕ) : Type 0 where
   pub earlier : ℕ
   pub before : WorldState
@@ -171,8 +176,9 @@ pub record HasTickedOnce (start now : WorldState) (n : ℕ) : Type 0 where
       → slice_get (leaving_on bearer (contact_at before.members n) after.members n ticks.frames) k ≡ Some f
       → slice_get (air_on bearer now.air) (length (air_on bearer before.air) + k) ≡ Some f
 
--- The frame at a place of a bearer's air arrived at node n once in the part of a round in which those of that bearer arrive, from a first
--- place on and before an end. It found the node as the course had left it, and if it wasn't too old then, it had its effect.
+-- The frame at a place of a bearer's air arrived at node n once in the part of a round in which those of that bearer
+-- arrive, from a first place on and before an end. It found the node as the course had left it, and if it wasn't too
+-- old then, it had its effect.
 pub record HasArrivedOnce (bearer first end : ℕ) (start now : WorldState) (place n : ℕ) (f : Sent) : Type 0 where
   pub earlier : ℕ
   pub before : WorldState
@@ -185,8 +191,8 @@ pub record HasArrivedOnce (bearer first end : ℕ) (start now : WorldState) (pla
   pub answered : Answer
   pub arrives : age_of before.members f n bearer ≤ most_age → HappensWhole before after (Arrive n bearer place) f.frame answered
 
--- A frame that left a node at its tick stands in the air after all ticks of the round, behind all that stood there when the round began, and arrives
--- once at node n in the part of the round in which the frames of its bearer arrive.
+-- A frame that left a node at its tick stands in the air after all ticks of the round, behind all that stood there when
+-- the round began, and arrives once at node n in the part of the round in which the frames of its bearer arrive.
 pub record TickBrings (bearer first end : ℕ) (start ticked from now : WorldState) (n : ℕ) (f : Sent) : Type 0 where
   pub place : ℕ
   pub behind : length (air_on bearer start.air) ≤ place

@@ -1,4 +1,5 @@
--- What the rounds of a call make of a packet that was numbered on a link that is up, whatever was lost before: it is released after four of them.
+-- What the rounds of a call make of a packet that was numbered on a link that is up, whatever was lost before: it is
+-- released after four of them.
 use Rattle.std.specs.Prelude.{◌≡◌, ◌≢◌, ◌⊎◌, ◌≤◌, ◌+◌, ◌*◌, ℕ, true, false}
 use Rattle.tipc_types.specs.Limits.{window_size}
 use Rattle.tipc_replay.specs.Sound.{IsNumber}
@@ -23,8 +24,9 @@ pub record WasUp (start : WorldState) (a b bearer : ℕ) : Type 0 where
 abbrev pub IsKnown : ℕ → SessionEnd → Type 0
 IsKnown position r = WasTaken position r ⊎ HasBeenShown position r
 
--- What one round makes of the packet at a position of node a's session with node b on a bearer. The receiver is shown that it was numbered; it asks for it, and
--- the packet is released, or was taken, or is sent again; it is taken; and it is released. None of this is undone in a later round.
+-- What one round makes of the packet at a position of node a's session with node b on a bearer. The receiver is shown
+-- that it was numbered; it asks for it, and the packet is released, or was taken, or is sent again; it is taken; and it
+-- is released. None of this is undone in a later round.
 pub record RoundBrings (start : WorldState) (places : Places) (outset : WorldState) (ends : Places) (now : WorldState) (a b bearer position : ℕ) : Type 0 where
   pub shows : StandsIn outset (IsAwaited position) a b bearer → StandsIn now (IsKnown position) b a bearer
   pub asks : StandsIn outset (IsAwaited position) a b bearer → StandsIn outset (IsKnown position) b a bearer

@@ -31,13 +31,14 @@ abbrev pub is_among : Receivers → ℕ → Bool
 is_among Any n = true
 is_among (Both first second) n = (n == first) || (n == second)
 
--- the frame at a place of a bearer's air arrives at a node, where the frame is for it, and it is among the receivers and is there
+-- the frame at a place of a bearer's air arrives at a node, where the frame is for it, and it is among the receivers
+-- and is there
 abbrev pub arrival_at : Receivers → ℕ → WorldState → ℕ → ℕ → Option WorldEvent
 arrival_at among bearer w place node =
     if is_among among node && is_there w node && is_some (frame_for w.air node bearer place) then Some (event.Arrive node bearer place) else None
 
--- Each place of a bearer's air has a number for each node, one after the other. What a number asks for: the frame at its place arrives at
--- its node.
+-- Each place of a bearer's air has a number for each node, one after the other. What a number asks for: the frame at
+-- its place arrives at its node.
 abbrev pub arrival_asked : Receivers → ℕ → Asks
 arrival_asked among bearer w number = arrival_at among bearer w (number / numbers) (number % numbers)
 
@@ -88,8 +89,8 @@ abbrev pub MakesRounds : ℕ → Course (Unit {0})
 MakesRounds rounds start (Ok done) now = (places : Places) × Rounds start rounds places now
 MakesRounds rounds start (Err stop) now = RoundHalts rounds start stop now
 
--- So many rounds are made, and it is told whether packets are under way then. Where all of them were made, and a frame was lost in one of them or
--- before, want of memory is told.
+-- So many rounds are made, and it is told whether packets are under way then. Where all of them were made, and a frame
+-- was lost in one of them or before, want of memory is told.
 abbrev pub Settles : ℕ → Course Settled
 Settles rounds start (Ok settled) now = MakesRounds rounds start (Ok tt) now × (now.lost ≡ false)
     × (settled ≡ settled_by (world_load now.members))

@@ -1,4 +1,5 @@
--- How two nodes come up to one another on a bearer, step by step, and what a round finds that takes each such pair one step further.
+-- How two nodes come up to one another on a bearer, step by step, and what a round finds that takes each such pair one
+-- step further.
 use Rattle.std.specs.Prelude.{◌≡◌, ◌≢◌, ◌≤◌, ℕ, true, false, None, Some, is_some, slice_index_or}
 use Rattle.tipc_pair.specs.Facing.{facing, is_up_at}
 use Rattle.tipc_settling.specs.Rises.{AnswersAt}
@@ -46,20 +47,21 @@ OnShared start Q w = (n b bearer : ℕ) (m : MemberState) → ShareBearer start 
 
 -- ---- rounds once all ends are made
 
--- node n rises, and has made its ends on shared bearers; from the first step on they answer, and from the second one on its links there are up
+-- node n rises, and has made its ends on shared bearers; from the first step on they answer, and from the second one on
+-- its links there are up
 pub record IsMetNode (start : WorldState) (most step n : ℕ) (m : MemberState) : Type 0 where
   pub rising : IsRisingNode start most n m
   pub made : (b bearer : ℕ) → ShareBearer start n b bearer → HasEnd b bearer m
   pub answers : 1 ≤ step → (b bearer : ℕ) → ShareBearer start n b bearer → IsAnswering start n b bearer m
   pub up : 2 ≤ step → (b bearer : ℕ) → ShareBearer start n b bearer → HasLinkUp b bearer m
 
--- likewise of a world that goes on from there: each node is so, and each frame that was sent since left on a bearer that
--- was mended, and is up to date with what its sender was when the call began
+-- likewise of a world that goes on from there: each node is so, and each frame that was sent since left on a bearer
+-- that was mended, and is up to date with what its sender was when the call began
 abbrev pub IsMetWorld : WorldState → ℕ → ℕ → WorldState → Type 0
 IsMetWorld start most step w = Guards start (ends_of start.air) (IsMetNode start most step) (IsFromMended start) w
 
--- A round begins so: the call began in a world in which no link was up, the ends on shared bearers are made, no link was silent for long, each link that is up
--- is answered; and nothing is lost in the round.
+-- A round begins so: the call began in a world in which no link was up, the ends on shared bearers are made, no link
+-- was silent for long, each link that is up is answered; and nothing is lost in the round.
 pub record MetRound (start : WorldState) (most step : ℕ) (places : Places) (outset : WorldState) (ends : Places) (now : WorldState) (r : IsRound places outset ends now) : Type 0 where
   pub kept : IsKept start
   pub down : IsDownWorld start

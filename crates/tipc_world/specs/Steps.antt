@@ -10,7 +10,8 @@ use Rattle.tipc_replay.specs.Steps.{stage, Becomes}
 use Rattle.tipc_world.specs.Events.{counts, is_call}
 use Rattle.tipc_world.specs.States.{WorldState}
 
--- the i-th recorded call of a world, i from 0, has the stamp i, the caller 0, and the number of the calls before it in that boot of its node
+-- the i-th recorded call of a world, i from 0, has the stamp i, the caller 0, and the number of the calls before it in
+-- that boot of its node
 abbrev pub by_in : List (Option MemberState) → ℕ → WorldEvent → By
 by_in members stamp event = record { stamp = stamp; caller = 0; call = calls_recorded members (node_of event) }
 

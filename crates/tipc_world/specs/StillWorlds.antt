@@ -1,4 +1,5 @@
--- A world in which nothing goes down since a call began: what is so of each two nodes, and of each frame that was sent since.
+-- A world in which nothing goes down since a call began: what is so of each two nodes, and of each frame that was sent
+-- since.
 use Rattle.std.specs.Prelude.{◌≡◌, ◌≢◌, ℕ, true, List}
 use Rattle.tipc_header.specs.Frames.{frame_of}
 use Rattle.tipc_header.specs.Grammar.{Fits}
@@ -34,11 +35,13 @@ IsStillNode start n m = (b : ℕ) → IsNumber b → n ≢ b → IsStill (footin
 abbrev pub HasHeardAll : ℕ → MemberState → Type 0
 HasHeardAll n m = (b : ℕ) → IsNumber b → n ≢ b → AreHeard (pair_with m.node b)
 
--- where a frame brings an original tunnel packet, that names a session that its sender, who stands on this footing, has ended
+-- where a frame brings an original tunnel packet, that names a session that its sender, who stands on this footing, has
+-- ended
 abbrev pub FrameTellsEnded : Footing → List ℕ → Type 0
 FrameTellsEnded sender bytes = (es er : ℕ) (p : Fields) → Fits p → bytes ≡ frame_of es er (spelling p) → TellsEnded sender p
 
--- a frame is up to date: it is under the epoch that its sender had on its bearer when a call began, and brings ended sessions alone
+-- a frame is up to date: it is under the epoch that its sender had on its bearer when a call began, and brings ended
+-- sessions alone
 pub record IsUpToDate (sender : Footing) (bearer : ℕ) (bytes : List ℕ) : Type 0 where
   pub epoch : es_of bytes ≡ sender.epoch bearer
   pub ended : FrameTellsEnded sender bytes
@@ -47,7 +50,7 @@ pub record IsUpToDate (sender : Footing) (bearer : ℕ) (bytes : List ℕ) : Typ
 abbrev pub IsUnderPresent : WorldState → ℕ → Sent → Type 0
 IsUnderPresent start bearer f = (s d : ℕ) → IsNumber s → IsNumber d → s ≢ d → goes s d f ≡ true → IsUpToDate (footing_at start s d) bearer f.frame
 
--- A world is still since a call began: it goes on from there, each two nodes are still, and each frame that was sent since shows what its sender
--- has at present.
+-- A world is still since a call began: it goes on from there, each two nodes are still, and each frame that was sent
+-- since shows what its sender has at present.
 abbrev pub IsStillWorld : WorldState → WorldState → Type 0
 IsStillWorld start w = Guards start (ends_of start.air) (IsStillNode start) (IsUnderPresent start) w

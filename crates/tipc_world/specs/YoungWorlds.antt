@@ -25,7 +25,8 @@ use Rattle.tipc_world.specs.StillWorlds.{footing_at}
 abbrev pub link_count : WorldState → WorldState → ℕ → ℕ → ℕ → ℕ
 link_count start w a b bearer = count_at w.members a b bearer ((footing_at start a b).epoch bearer)
 
--- how many packets the broadcast link of a node accepted in its present boot: those that have a number, and those that wait
+-- how many packets the broadcast link of a node accepted in its present boot: those that have a number, and those that
+-- wait
 abbrev pub casts_at : WorldState → ℕ → ℕ
 casts_at w n = accepted (casting_at w.members n).sending
 
@@ -45,8 +46,8 @@ pub record IsCountedSince (start base : WorldState) (bearer : ℕ) (f : Sent) (a
   pub own : (footing_at start a b).up bearer ≡ true → link_count start base a b bearer ≤ f.numbered
   pub peer : er_of f.frame ≡ (footing_at start b a).epoch bearer → (footing_at start b a).up bearer ≡ true → link_count start base b a bearer ≤ f.peer_numbered
 
--- and what stands beside it of the broadcast of its sender, and of the node that it is for, is not far below what they accepted; a waiting list holds
--- at most 246 packets
+-- and what stands beside it of the broadcast of its sender, and of the node that it is for, is not far below what they
+-- accepted; a waiting list holds at most 246 packets
 pub record IsCastSince (start : WorldState) (f : Sent) : Type 0 where
   pub boot : (a : ℕ) → f.from.word ≡ node_word a → f.to ≡ to.All → kind_in f.frame ≡ Casts → first_of f.frame ≡ boot_at start.members a
   pub own : (a : ℕ) → f.from.word ≡ node_word a → casts_at start a ≤ f.casts + 246
@@ -60,7 +61,8 @@ pub record IsSince (start base : WorldState) (bearer : ℕ) (f : Sent) : Type 0 
 
 -- ---- a round
 
--- The frames behind some places are young: since a moment after which they were sent no link numbered more than a window's packets.
+-- The frames behind some places are young: since a moment after which they were sent no link numbered more than a
+-- window's packets.
 pub record AreYoung (start : WorldState) (places : Places) (w : WorldState) : Type 0 where
   pub base : WorldState
   pub numbers : NumbersFew start base w window_size

@@ -21,10 +21,11 @@ pub enum Limit {
 /// `World::arrive` and `World::settle` do, those before it happened.
 #[derive(Clone, Copy, Debug, PartialEq, Eq)]
 pub enum WorldFault {
-    /// A limit was reached. At Events and Journal nothing is changed; at Frames the event happened, and the air has passed its limit.
+    /// A limit was reached. At Events and Journal nothing is changed; at Frames the event happened, and the air has
+    /// passed its limit.
     Limit(Limit),
-    /// Memory ran out. Nothing is changed by the event. `World::settle` answers so too where all its rounds were made and a
-    /// frame was lost, in one of them or before.
+    /// Memory ran out. Nothing is changed by the event. `World::settle` answers so too where all its rounds were made
+    /// and a frame was lost, in one of them or before.
     NoMemory,
 }
 

@@ -27,8 +27,9 @@ ghost use Rattle.tipc_world.specs.Settling.{arrival_asked, settled_by, tick_aske
 ghost use Rattle.tipc_world.specs.States.{is_there, WorldState};
 ghost use Rattle.tipc_world.specs.StillWorlds.{HasHeardAll, IsStillWorld, MayBeStill};
 
-/// A course parts at each of its numbers, and the rounds of a call part at each round: what stands before, and what behind. A round has its parts: every
-/// node ticks, and then frames arrive on bearer 0, and then on bearer 1. (This project's profile.)
+/// A course parts at each of its numbers, and the rounds of a call part at each round: what stands before, and what
+/// behind. A round has its parts: every node ticks, and then frames arrive on bearer 0, and then on bearer 1. (This
+/// project's profile.)
 pub fn rounds_have_their_parts()
     ensures course { (asks : Asks) (first number : ℕ) (start : WorldState) (end count : ℕ) (now : WorldState)
         → first ≤ number → number < end → Goes asks first start end count now
@@ -39,11 +40,11 @@ pub fn rounds_have_their_parts()
         → Round places start (Ok ends) now → IsRound places start ends now }
 {}
 
-/// What a number of a round comes to, where no frame is lost: nothing; a node ticks; or a frame of the air that isn't too old arrives at a node that it
-/// is for. Each frame in the air then stood there before, or left in that event; and where a number of its node grows by no more than another one does, the totals of all
-/// nodes do. Through all rounds of a call in which no frame is lost, the same nodes
-/// are there, in their boots and with the bearers mended that were; all that was sent and that happened stays; and what every world keeps is kept.
-/// (This project's profile.)
+/// What a number of a round comes to, where no frame is lost: nothing; a node ticks; or a frame of the air that isn't
+/// too old arrives at a node that it is for. Each frame in the air then stood there before, or left in that event; and
+/// where a number of its node grows by no more than another one does, the totals of all nodes do. Through all rounds of
+/// a call in which no frame is lost, the same nodes are there, in their boots and with the bearers mended that were;
+/// all that was sent and that happened stays; and what every world keeps is kept. (This project's profile.)
 pub fn settling_goes_by_events()
     ensures ticks { (from : Places) (number : ℕ) (old : WorldState) (made : Bool) (new : WorldState)
         → Takes tick_asked number old (Ok made) new → new.lost ≡ false → RoundStep from old new }
@@ -61,17 +62,18 @@ pub fn settling_goes_by_events()
         → Rounds start rounds places now → now.lost ≡ false → GoesByRounds start places now }
 {}
 
-/// In a round in which no frame is lost, each node that is there ticks once: the ticks of the others leave it as it is, and all frames that leave it
-/// stand in the air. (This project's profile.)
+/// In a round in which no frame is lost, each node that is there ticks once: the ticks of the others leave it as it is,
+/// and all frames that leave it stand in the air. (This project's profile.)
 pub fn each_node_ticks_once_a_round()
     ensures { (places : Places) (start : WorldState) (ends : Places) (now : WorldState)
         (r : IsRound places start ends now) (n : ℕ) → now.lost ≡ false → 1 ≤ n → n ≤ 32 → is_there start n ≡ true
         → HasTickedOnce start r.ticked n }
 {}
 
-/// In a round in which no frame is lost, each frame that stands in the air at or behind the first places of the round, after the ticks, arrives once at
-/// each node that it is for and that is there, and has its effect there if it isn't too old then: on bearer 0, and on bearer 1 behind that. No
-/// other number of the round asks for this arrival. (This project's profile.)
+/// In a round in which no frame is lost, each frame that stands in the air at or behind the first places of the round,
+/// after the ticks, arrives once at each node that it is for and that is there, and has its effect there if it isn't
+/// too old then: on bearer 0, and on bearer 1 behind that. No other number of the round asks for this arrival. (This
+/// project's profile.)
 pub fn each_frame_arrives_once_a_round()
     ensures first { (places : Places) (start : WorldState) (ends : Places) (now : WorldState)
         (r : IsRound places start ends now) (place n : ℕ) (f : Sent) → now.lost ≡ false → n ≤ 32
@@ -85,8 +87,9 @@ pub fn each_frame_arrives_once_a_round()
         → arrival_asked Any bearer w number ≡ Some (Arrive n bearer place) → number ≡ numbers * place + n }
 {}
 
-/// In a round in which no frame is lost, each frame that leaves a node at its tick arrives once, in the same round, at each node that it is for and that
-/// is there, where the first places of the round aren't behind the ends of the air with which it begins. (This project's profile.)
+/// In a round in which no frame is lost, each frame that leaves a node at its tick arrives once, in the same round, at
+/// each node that it is for and that is there, where the first places of the round aren't behind the ends of the air
+/// with which it begins. (This project's profile.)
 pub fn what_a_tick_sends_arrives()
     ensures first { (places : Places) (start : WorldState) (ends : Places) (now : WorldState)
         (r : IsRound places start ends now) (b n k : ℕ) (t : HasTickedOnce start r.ticked b) (o : Outgoing)
@@ -109,10 +112,11 @@ pub fn no_packets_are_quiet()
     ensures { (w : WorldState) → packets_under_way w ≡ 0 → settled_by (world_load w.members) ≡ Quiet }
 {}
 
-/// While a world settles nothing goes down. Where each link that is up is up with what the peer has at present, as in a poised world and in one in which no
-/// link is up, each two nodes are still from the begin of the call on, and each round keeps them so in which no frame is lost and that begins when each
-/// node has heard all others in the last three ticks: contact numbers and epochs stay, links that were up stay up, and what is sent shows what its sender
-/// has at present. (This project's profile.)
+/// While a world settles nothing goes down. Where each link that is up is up with what the peer has at present, as in a
+/// poised world and in one in which no link is up or held, each two nodes are still from the begin of the call on, and
+/// each round keeps them so in which no frame is lost and that begins when each node has heard all others in the last
+/// three ticks: contact numbers and epochs stay, links that were up stay up, and what is sent shows what its sender has
+/// at present. (This project's profile.)
 pub fn nothing_goes_down_in_a_round()
     ensures poised { (w : WorldState) → IsKept w → IsPoised w → MayBeStill w }
     ensures down { (w : WorldState) → IsDownWorld w → MayBeStill w }
@@ -123,8 +127,8 @@ pub fn nothing_goes_down_in_a_round()
         → IsStillWorld start outset → EachNode HasHeardAll outset → IsStillWorld start now }
 {}
 
-/// And from a poised world on nothing goes up: each round keeps each link up just where it was, and all that is sent is sent on bearers that are mended.
-/// (This project's profile.)
+/// And from a poised world on nothing goes up: each round keeps each link up just where it was, and all that is sent is
+/// sent on bearers that are mended. (This project's profile.)
 pub fn a_poised_world_stays_calm()
     ensures begins { (start : WorldState) → IsKept start → IsPoised start → start.lost ≡ false
         → IsCalmWorld start start }
@@ -133,9 +137,10 @@ pub fn a_poised_world_stays_calm()
         → now.lost ≡ false → IsCalmWorld start outset → EachNode HasHeardAll outset → IsCalmWorld start now }
 {}
 
-/// In a poised world each node has heard all others in the last three ticks. And each round of a call that began in one leaves each node so: what each node
-/// says at its tick of a link that is up arrives in the round, none of whose frames is too old, and ends the silence at the other end. So the call leaves
-/// each link up just where it was through all its rounds, and the world is poised again after it. (This project's profile.)
+/// In a poised world each node has heard all others in the last three ticks. And each round of a call that began in one
+/// leaves each node so: what each node says at its tick of a link that is up arrives in the round, none of whose frames
+/// is too old, and ends the silence at the other end. So the call leaves each link up just where it was through all its
+/// rounds, and the world is poised again after it. (This project's profile.)
 pub fn a_poised_world_hears_itself()
     ensures begins { (w : WorldState) → IsKept w → IsPoised w → EachNode HasHeardAll w }
     ensures round { (start : WorldState) (places : Places) (outset : WorldState) (ends : Places) (now : WorldState)
@@ -146,9 +151,9 @@ pub fn a_poised_world_hears_itself()
         → StandsCalm start places now → StaysPoised start now }
 {}
 
-/// In a world in which no link is up nothing goes down in the first four rounds either in which no frame is lost, while links come up: no link is silent for
-/// more ticks than rounds were made. And each link that is up is answered: the end of its peer knows its present epoch, and is up or heard a reset. (This
-/// project's profile.)
+/// In a world in which no link is up or held nothing goes down in the first four rounds either in which no frame is
+/// lost, while links come up: no link is silent for more ticks than rounds were made. And each link that is up is
+/// answered: the end of its peer knows its present epoch, and is up or heard a reset. (This project's profile.)
 pub fn links_that_come_up_are_answered()
     ensures begins { (start : WorldState) → IsKept start → IsDownWorld start → start.lost ≡ false
         → IsRisingWorld start 0 start × AreUpsAnswered start start }
@@ -158,8 +163,8 @@ pub fn links_that_come_up_are_answered()
         → AreUpsAnswered start outset → IsRisingWorld start (most + 1) now × AreUpsAnswered start now }
 {}
 
-/// A world in which no link is up or held is poised after four rounds or more in which no frame is lost: each two nodes stand on each bearer that is
-/// mended at both. (This project's profile.)
+/// A world in which no link is up or held is poised after four rounds or more in which no frame is lost: each two nodes
+/// stand on each bearer that is mended at both. (This project's profile.)
 pub fn a_new_world_comes_up()
     ensures { (start : WorldState) (rounds : ℕ) (places : Places) (now : WorldState) → 4 ≤ rounds → IsKept start
         → IsDownWorld start → Rounds start rounds places now → now.lost ≡ false → IsPoised now }

@@ -58,8 +58,8 @@ impl<P: Pick> World<P> {
         self.replay.lost()
     }
 
-    /// How many messages node `a` accepted for node `b` in the contact in which it is with it, and how many of them were delivered, in all
-    /// boots: None exactly where it is in none. A count stops at the last number of 64 bits.
+    /// How many messages node `a` accepted for node `b` in the contact in which it is with it, and how many of them
+    /// were delivered, in all boots: None exactly where it is in none. A count stops at the last number of 64 bits.
     pub fn flow(&self, a: u8, b: u8) -> Option<FlowCounts>
         requires { (1 ≤ a) × (a ≤ 32) × (1 ≤ b) × (b ≤ 32) }
         ensures { result ≡ flow_of self.now.state.members a b }

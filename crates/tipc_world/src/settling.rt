@@ -111,8 +111,8 @@ fn deliver_both<P: Pick>(
     deliver_on(alloc, 1, places.second, ends.second, world)
 }
 
-/// Lets the frames from some places on arrive that are in the air now, those of bearer 0 and then those of bearer 1, and answers the
-/// places behind them.
+/// Lets the frames from some places on arrive that are in the air now, those of bearer 0 and then those of bearer 1,
+/// and answers the places behind them.
 fn deliver<P: Pick>(
     alloc: Global,
     places: Places,
@@ -155,8 +155,8 @@ fn tick_all<P: Pick>(alloc: Global, world: &mut World<P>) -> Result<(), WorldFau
     Ok(())
 }
 
-/// Makes a round: a tick passes at every node, and then the frames from some places on arrive that are in the air. It answers
-/// the places behind them.
+/// Makes a round: a tick passes at every node, and then the frames from some places on arrive that are in the air. It
+/// answers the places behind them.
 fn round<P: Pick>(alloc: Global, places: Places, world: &mut World<P>) -> Result<Places, WorldFault>
     requires { AreBefore places (ends_of world.old.state.air) }
     ensures comes { Round places world.old.state result world.new.state }
@@ -193,8 +193,9 @@ fn make_rounds<P: Pick>(alloc: Global, rounds: u32, world: &mut World<P>) -> Res
 }
 
 impl<P: Pick> World<P> {
-    /// Lets the frame at a place of a bearer's air arrive at each node that it is for, where that is one of the receivers and is there, in order
-    /// of address. It answers at how many nodes the frame arrived so; where it is too old, that counts as one where it did.
+    /// Lets the frame at a place of a bearer's air arrive at each node that it is for, where that is one of the
+    /// receivers and is there, in order of address. It answers at how many nodes the frame arrived so; where it is too
+    /// old, that counts as one where it did.
     ///
     /// # Errors
     ///
@@ -218,7 +219,8 @@ impl<P: Pick> World<P> {
         arrived
     }
 
-    /// Lets the frame at a place of a bearer's air arrive where it is for. Where that is one node alone, no other is asked.
+    /// Lets the frame at a place of a bearer's air arrive where it is for. Where that is one node alone, no other is
+    /// asked.
     fn take(
         &mut self,
         alloc: Global,
@@ -262,8 +264,8 @@ impl<P: Pick> World<P> {
         Ok(count)
     }
 
-    /// Lets the frame at a place of a bearer's air arrive at a node, where the frame is for it, and it is one of the receivers and is there. It
-    /// answers whether the frame arrived so.
+    /// Lets the frame at a place of a bearer's air arrive at a node, where the frame is for it, and it is one of the
+    /// receivers and is there. It answers whether the frame arrived so.
     fn try_to_reach(
         &mut self,
         alloc: Global,
@@ -283,8 +285,8 @@ impl<P: Pick> World<P> {
         Ok(true)
     }
 
-    /// Lets the frame at a place of a bearer's air arrive at a node that it is for, where that is one of the receivers and is there. It answers
-    /// whether the frame arrived so.
+    /// Lets the frame at a place of a bearer's air arrive at a node that it is for, where that is one of the receivers
+    /// and is there. It answers whether the frame arrived so.
     fn reach(
         &mut self,
         alloc: Global,
@@ -325,20 +327,22 @@ impl<P: Pick> World<P> {
         }
     }
 
-    /// Makes so many rounds. In each of them every node ticks, in order of address, and then the frames arrive that were sent since
-    /// this call began and haven't arrived in one of its rounds yet: those of bearer 0 first, and on a bearer in order. Frames that are sent
-    /// while frames arrive wait for the next round. It answers whether packets are under way then.
+    /// Makes so many rounds. In each of them every node ticks, in order of address, and then the frames arrive that
+    /// were sent since this call began and haven't arrived in one of its rounds yet: those of bearer 0 first, and on a
+    /// bearer in order. Frames that are sent while frames arrive wait for the next round. It answers whether packets
+    /// are under way then.
     ///
-    /// Where it answers Ok, no frame was lost. Then a world that was poised (each two nodes have a link on each bearer that isn't cut at one of
-    /// them) stays poised, and no more is under way than before. 200 rounds acknowledge all that its links and broadcast links had numbered; and
-    /// 16 rounds, with 16 more for each packet and each message that was under way, bring it to rest: the answer is [`Settled::Quiet`], and all
-    /// that nodes in contact accepted for one another is delivered. A world in which no link end is up or held is poised after four rounds.
-    /// (This project's profile.)
+    /// Where it answers Ok, no frame was lost. Then a world that was poised (each two nodes have a link on each bearer
+    /// that isn't cut at one of them) stays poised, and no more is under way than before. 200 rounds acknowledge all
+    /// that its links and broadcast links had numbered; and 16 rounds, with 16 more for each packet and each message
+    /// that was under way, bring it to rest: the answer is [`Settled::Quiet`], and all that nodes in contact accepted
+    /// for one another is delivered. A world in which no link end is up or held is poised after four rounds. (This
+    /// project's profile.)
     ///
     /// # Errors
     ///
-    /// The first fault of an event, as [`World::step`] answers it: the events before it happened. NoMemory too where all rounds were made and
-    /// a frame was lost, in one of them or before.
+    /// The first fault of an event, as [`World::step`] answers it: the events before it happened. NoMemory too where
+    /// all rounds were made and a frame was lost, in one of them or before.
     pub fn settle(&mut self, alloc: Global, rounds: u32) -> Result<Settled, WorldFault>
         ensures comes { Settles rounds self.old.state result self.new.state }
         ensures continues { Continues P.gives self.old self.new }

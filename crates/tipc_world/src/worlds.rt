@@ -27,8 +27,8 @@ const MOST_EVENTS: u64 = 300_000;
 /// The most frames in the air of both bearers together. (This project's profile.)
 const MOST_FRAMES: usize = 100_000;
 
-/// Nodes and the air between them, whose calls are counted and stamped, and the chooser that says to which of those that a name finds a message
-/// goes.
+/// Nodes and the air between them, whose calls are counted and stamped, and the chooser that says to which of those
+/// that a name finds a message goes.
 #[derive(Drop)]
 pub struct World<P: Pick> {
     pub(crate) replay: Replay,
@@ -178,10 +178,11 @@ impl<P: Pick> World<P> {
     ///
     /// # Errors
     ///
-    /// Limit exactly where a limit is reached: at 300,000 events; where the journal of the node has no room for the call; and after an
-    /// event that takes the air of both bearers past 100,000 frames, which happened then. Else NoMemory. At all but the limit of frames nothing is
-    /// changed. The clause `stops` says so. To which match a message by name goes is a part of the clause `good`. The clauses `recorded` and
-    /// `kept` say which calls stand in all journals then, in order of their stamps.
+    /// Limit exactly where a limit is reached: at 300,000 events, where the event counts as one; where the journal of
+    /// the node has no room for the call; and after an event that takes the air of both bearers past 100,000 frames,
+    /// which happened then. Else NoMemory. At all but the limit of frames nothing is changed. The clause `stops` says
+    /// so. To which match a message by name goes is a part of the clause `good`. The clauses `recorded` and `kept` say
+    /// which calls stand in all journals then, in order of their stamps.
     pub fn step(&mut self, alloc: Global, event: WorldEvent) -> Result<Answer, WorldFault>
         requires { CanHappen self.old.state event }
         ensures answered { IfOk result (IsAnswered self.old.state event self.new.state) }

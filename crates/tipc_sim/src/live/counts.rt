@@ -6,7 +6,8 @@ ghost use Rattle.tipc_sim.specs.LiveCounts.{accepted_in, answered_in, delivered_
 use tipc_journal::Entry;
 use tipc_types::Flow;
 
-/// Whether the messages of a flow are counted: those to one node, and those over the broadcast link. (This project's profile.)
+/// Whether the messages of a flow are counted: those to one node, and those over the broadcast link. (This project's
+/// profile.)
 fn is_counted(flow: Flow) -> bool
     ensures { result ≡ is_counted flow }
 {

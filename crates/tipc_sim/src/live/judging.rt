@@ -43,7 +43,8 @@ fn show_plan(alloc: Global, plan: &LivePlan, node: u8, passes: &[Pass]) -> Resul
     Ok(true)
 }
 
-/// What is found of nodes, whose journals tell what their passes do: whether they show the plan, or which is the first that doesn't.
+/// What is found of nodes, whose journals tell what their passes do: whether they show the plan, or which is the first
+/// that doesn't.
 #[tactic(auto, using(crate::proofs::LiveLaws::shown_none, crate::proofs::LiveLaws::shown_more, crate::proofs::LiveLaws::first_unshown, crate::proofs::LiveLaws::shown_all))]
 fn judge_plan<P>(
     alloc: Global,

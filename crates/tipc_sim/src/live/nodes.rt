@@ -113,11 +113,11 @@ fn run_nodes<
     })
 }
 
-/// Runs the plan with the first of these choosers, bearers and clocks, as many as it needs, and gathers what is left. Answers whether a bearer was
-/// seen to fail.
+/// Runs the plan with the first of these choosers, bearers and clocks, as many as it needs, and gathers what is left.
+/// Answers whether a bearer was seen to fail.
 ///
-/// What comes out of a lock meets the rule of its type, and no clause tells which node it is. So it is looked at: that it is another can't be, and
-/// would be told as want of memory, the one answer for which no cause is promised.
+/// What comes out of a lock meets the rule of its type, and no clause tells which node it is. So it is looked at: that
+/// it is another can't be, and would be told as want of memory, the one answer for which no cause is promised.
 pub(crate) fn run_gathered<
     R: Threads + Wait + Sync,
     P: Pick + Send + Sync + Drop,

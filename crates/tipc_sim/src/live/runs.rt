@@ -111,11 +111,12 @@ fn run_plan<
     }
 }
 
-/// Runs the plan that the words are, over bearers, by clocks and through a gate, where the words are a plan. Then it audits the nodes' journals, and
-/// writes the report: the plan, what each journal counts, and what was found.
+/// Runs the plan that the words are, over bearers, by clocks and through a gate, where the words are a plan. Then it
+/// audits the nodes' journals, and writes the report: the plan, what each journal counts, and what was found.
 ///
-/// There are at least as many choosers, at turn 0, and clocks as the plan has nodes, and two bearers for each node, in order of node and bearer.
-/// Behind the run the nodes with their callers' passes, the replay of the audit and the bearers are gathered, where nothing was.
+/// There are at least as many choosers, at turn 0, and clocks as the plan has nodes, and two bearers for each node, in
+/// order of node and bearer. Behind the run the nodes with their callers' passes, the replay of the audit and the
+/// bearers are gathered, where nothing was.
 ///
 /// That it comes back isn't promised. (This project's profile.)
 pub fn run_live<

@@ -118,7 +118,8 @@ fn run_over<R: Threads + Wait + Sync + time::Clock, K: Sink, B: Bearer + Send + 
         &FreeGate,
         &mut gathered,
     );
-    // The process ends soon, which gives all its memory back at once: nodes and replay aren't taken apart piece by piece.
+    // The process ends soon, which gives all its memory back at once: nodes and replay aren't taken apart piece by
+    // piece.
     forget(gathered);
     Ok(status)
 }

@@ -51,8 +51,9 @@ fn plan_behind(medium: &str, nodes: &str, callers: &str, messages: &str) -> Opti
     })
 }
 
-/// The plan that the words after the program's name are, if any: `live`, `memory` or `udp`, the number of nodes from 2 to 8, of callers of each
-/// node from 1 to 8, and of messages of each caller from 1 to 1,000, in decimal digits without sign or leading zero. (This project's profile.)
+/// The plan that the words after the program's name are, if any: `live`, `memory` or `udp`, the number of nodes from 2
+/// to 8, of callers of each node from 1 to 8, and of messages of each caller from 1 to 1,000, in decimal digits without
+/// sign or leading zero. (This project's profile.)
 pub fn live_plan(words: &[String]) -> Option<LivePlan>
     ensures plan { result ≡ live_plan (map string_bytes words.now) }
     ensures live { IfSome result IsLivePlan }

@@ -16,7 +16,8 @@ use Rattle.tipc_world.specs.States.{WorldState}
 use Rattle.tipc_replay.proofs.calls.Journals.{all_get, journal_at-is, journal_at-none}
 use Rattle.tipc_replay.proofs.calls.Singles.{AreSingle, are_single, in_range, none_of, only_one, range_apart, read_at, read_of}
 
--- Nodes have their numbers. Stamps rise along each journal, each stands in one journal alone, and they are the numbers below this one.
+-- Nodes have their numbers. Stamps rise along each journal, each stands in one journal alone, and they are the numbers
+-- below this one.
 pub record AreStamped (members : List (Option MemberState)) (recorded : ℕ) : Type 0 where
   pub numbered : (n : ℕ) (m : MemberState) → slice_index_or members n None ≡ Some m → (1 ≤ n) × (n ≤ 32)
   pub rise : (n boot : ℕ) (journal : List Entry) → journal_at members n boot ≡ Some journal → StampsRise journal

@@ -1,4 +1,5 @@
--- From one moment of a call on the broadcast links of a calm world go on, and each member wants a place that lies further by just what it took since.
+-- From one moment of a call on the broadcast links of a calm world go on, and each member wants a place that lies
+-- further by just what it took since.
 use Rattle.std.specs.Prelude.{◌%◌, ◌-◌, All, is_some, option_map}
 use Rattle.std.proofs.Common.{◌≡◌, ◌≢◌, ◌≤◌, ◌+◌, ◌∙◌, ℕ, List, Some, Option, None, length, slice_index_or, inl, inr, refl, sym, ap, subst, arith}
 use Rattle.std.proofs.lemmas.Bool.{cases_eq}

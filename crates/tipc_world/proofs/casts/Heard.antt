@@ -114,7 +114,8 @@ stating_here v word seen c there = by seen.in_step refl
 
 -- ---- in a round
 
--- Node n heard what node b told of the broadcast when the round began: what its broadcast link made of it, and what left.
+-- Node n heard what node b told of the broadcast when the round began: what its broadcast link made of it, and what
+-- left.
 pub record CastHeard (start outset ticked now : WorldState) (b n bearer : ℕ) : Type 0 where
   pub seen : BroadcastState
   pub before : WorldState

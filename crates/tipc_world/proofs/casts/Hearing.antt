@@ -1,4 +1,5 @@
--- A STATE that the session of a link hears in a round is taken by the broadcast link of its node, and what that asks for is sent again.
+-- A STATE that the session of a link hears in a round is taken by the broadcast link of its node, and what that asks
+-- for is sent again.
 use Rattle.std.specs.List.{Contains}
 use Rattle.std.proofs.Common.{◌≡◌, ◌∙◌, ℕ, true, false, [], ◌++◌, Some, refl, sym, ap, subst, append-nil, arith}
 use Rattle.std.proofs.lemmas.List.Elements.{Contains-append_left, Contains-append_right}

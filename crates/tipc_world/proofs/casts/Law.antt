@@ -1,4 +1,5 @@
--- A node of a world as a caster, and another one that is in contact with it as its member, as they stand in the law of broadcast.
+-- A node of a world as a caster, and another one that is in contact with it as its member, as they stand in the law of
+-- broadcast.
 use Rattle.std.specs.Prelude.{All, IfSome, cond, option_map}
 use Rattle.std.specs.List.{Contains}
 use Rattle.std.proofs.Common.{◌≡◌, ◌≢◌, ◌≤◌, ◌<◌, ◌+◌, ◌-◌, ◌^◌, ◌∙◌, ℕ, Bool, true, false, List, [], ◌∷◌, Option, Some, None, slice_index_or, refl, sym, ap, subst, arith}
@@ -43,7 +44,8 @@ pub record IsCredited (g : Group) (word contact : ℕ) (v : Casting) : Type 0 wh
   pub some : 1 ≤ credit.start
   pub acked : (g.members word).acked ≡ credit.acked
 
--- Node a, of these broadcast link, and node b, of that one, in a contact: where a numbers it by `own`, and b by `theirs`.
+-- Node a, of these broadcast link, and node b, of that one, in a contact: where a numbers it by `own`, and b by
+-- `theirs`.
 pub record CastPair (w : WorldState) (a b own theirs : ℕ) (v u : Casting) : Type 0 where
   pub group : Group
   pub law : IsGroup group

@@ -1,4 +1,5 @@
--- What goes on at a broadcast link where nobody joins, leaves or sends: contacts stay, and nothing that was acknowledged, wanted or shown is taken back.
+-- What goes on at a broadcast link where nobody joins, leaves or sends: contacts stay, and nothing that was
+-- acknowledged, wanted or shown is taken back.
 use Rattle.std.specs.Prelude.{All, IfSome, if◌then◌else◌, is_some, nat_lt, not, option_map, slice_index_or}
 use Rattle.std.proofs.Common.{◌≡◌, ◌≤◌, ◌<◌, ◌+◌, ◌∙◌, ℕ, Bool, true, false, List, [], ◌∷◌, Option, Some, None, length, inl, inr, refl, sym, ap, subst, arith}
 use Rattle.std.proofs.lemmas.Bool.{and_parts}
@@ -297,7 +298,8 @@ stated_settles v peer seen x is numbered so false step =
 
 -- ---- the broadcast link
 
--- it goes on: it accepts nothing, no number and no acknowledgement is taken back, no contact is lost, and what all peers acknowledged is released
+-- it goes on: it accepts nothing, no number and no acknowledgement is taken back, no contact is lost, and what all
+-- peers acknowledged is released
 pub record LinkGoes (v u : Casting) : Type 0 where
   pub boot : u.boot ≡ v.boot
   pub accepted_is : accepted u.sending ≡ accepted v.sending

@@ -1,4 +1,5 @@
--- A member asks for a broadcast packet that it was shown and lacks, and its sender sends it again, for that member among others.
+-- A member asks for a broadcast packet that it was shown and lacks, and its sender sends it again, for that member
+-- among others.
 use Rattle.std.specs.Prelude.{if◌then◌else◌, is_some}
 use Rattle.std.specs.List.{Contains}
 use Rattle.std.proofs.Common.{◌≡◌, ◌≤◌, ◌<◌, ◌⊎◌, ◌+◌, ◌-◌, ◌^◌, ◌∙◌, ℕ, zero, suc, Bool, true, false, List, [], ◌∷◌, Some, None, length, slice_get, slice_index_or, inl, inr, refl, sym, ap, subst, arith}
@@ -104,7 +105,8 @@ few_members set small = omega (arith, small)
 contains_at : {A : Type 0} (xs : List A) (k : ℕ) (x : A) → slice_get xs k ≡ Some x → Contains xs x
 contains_at xs k x there = (k, slice_get_within xs k x there, get_or_from_slice_get xs k x x there)
 
--- A node whose link to another one is up: its broadcast link is its own, the bearer is mended, and it knows the other one.
+-- A node whose link to another one is up: its broadcast link is its own, the bearer is mended, and it knows the other
+-- one.
 pub record IsOpenOn (a b bearer : ℕ) (m : MemberState) : Type 0 where
   pub own : m.node.casting.own ≡ node_word a
   pub mended : slice_index_or m.node.casting.mended bearer false ≡ true
@@ -194,7 +196,8 @@ module _ {start : WorldState} {places : Places} {outset : WorldState} {ends : Pl
       let gap = (gaps_are_told pair.group (node_word b) (contact_of own theirs) _ 0 0 pair.kept w pair.member (wants_place pair w in_step).1 in_step (omega (arith, more, shown_is))).some in
       subst (λ (c : Contact). 1 ≤ gap_to w c.shown) same (subst (λ o. 1 ≤ (shown_in 0 0 pair.kept.shown o).gap) in_step gap)
 
-  -- what node a heard: it released the packet, or the member acknowledged it before and so has taken it, or it sends it again
+  -- what node a heard: it released the packet, or the member acknowledged it before and so has taken it, or it sends it
+  -- again
   asked : (position : ℕ) (known : MemberIs outset (IsCastKnown position) a b) → IsCastAwaited position known.caster.node.casting → known.so.so_far < position → (h : CastHeard start outset r.ticked now b a bearer) → (before : MemberIs h.before (IsCastKnown position) a b)
       → ToldAt start outset r.ticked now a b bearer h before.member known.kept known.so.window known.so.so_far → CastsAs now (IsCastReleased position) a ⊎ (MemberIs now (HasTakenCast position) a b ⊎ CastIsOnItsWay ends now a b bearer position)
   asked position known due waits h before t =

@@ -117,7 +117,8 @@ same_places v u r x g word number goes good wants shows contact is =
     near_places x shows.place (acked_of v.sending) v.sending.numbered (acked_of u.sending) u.sending.numbered shows.contact.acked (accepted u.sending) wants.low wants.high (omega (arith, window, below)) goes.acked contact.after_release shows.recent shows.is_numbered (omega arith)
     contact.before_accepted (omega (arith, all, few)) (sym shows.number_is ∙ is)
 
--- Node a heard a STATE in which node b, in step, acknowledged all up to a position, by what it kept of node a; kb is node b then.
+-- Node a heard a STATE in which node b, in step, acknowledged all up to a position, by what it kept of node a; kb is
+-- node b then.
 pub record ToldAt (start outset ticked now : WorldState) (a b bearer : ℕ) (h : CastHeard start outset ticked now b a bearer) (kb : MemberState) (c : Contact) (r : Receiving) (x : ℕ) : Type 0 where
   pub pair : CastPair h.before a b (footing_at start a b).contact (footing_at start b a).contact h.member.node.casting kb.node.casting
   pub in_step : h.seen.in_step ≡ true

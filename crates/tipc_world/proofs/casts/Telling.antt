@@ -1,4 +1,5 @@
--- What stands beside a STATE that a node tells at its tick in a round of a calm world, and what it shows of the broadcast.
+-- What stands beside a STATE that a node tells at its tick in a round of a calm world, and what it shows of the
+-- broadcast.
 use Rattle.std.specs.Prelude.{is_some, unwrap_or}
 use Rattle.std.proofs.Common.{◌≡◌, ◌≢◌, ◌≤◌, ◌+◌, ◌∙◌, ℕ, true, [], Some, None, slice_index_or, refl, sym, ap, arith}
 use Rattle.tipc_types.specs.Address.{node_word}
@@ -28,8 +29,8 @@ use Rattle.tipc_world.proofs.rounds.Keeping.{here_is, other_stays}
 use Rattle.tipc_world.proofs.rounds.Since.{numbers_used}
 use Rattle.tipc_world.proofs.rounds.UpLinks.{the_member}
 
--- Node b told node n this of the broadcast, as its link stood when the round began, in a frame beside which stand their contact, about as many numbers as b
--- had used then, and no fewer than n had.
+-- Node b told node n this of the broadcast, as its link stood when the round began, in a frame beside which stand their
+-- contact, about as many numbers as b had used then, and no fewer than n had.
 pub record TellsCast (start outset : WorldState) (b n : ℕ) (f : Sent) (seen : BroadcastState) : Type 0 where
   pub shows : (m : MemberState) → slice_index_or outset.members b None ≡ Some m → seen ≡ shown m.node.casting (node_word n)
   pub sender : f.from.word ≡ node_word b

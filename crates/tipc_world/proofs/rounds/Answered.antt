@@ -51,8 +51,8 @@ use Rattle.tipc_world.proofs.rounds.StillWorlds.{IsSentFrom, no_end_below, node_
 
 -- ---- an event
 
--- What is shown of an event of a node beside what happened: its node was still with each other one, what came to it shows the present, and an end that
--- heard what takes it up is answered.
+-- What is shown of an event of a node beside what happened: its node was still with each other one, what came to it
+-- shows the present, and an end that heard what takes it up is answered.
 pub record IsAnsweredEvent (start old new : WorldState) (event : WorldEvent) (bytes : List ℕ) (answered : Answer) (h : HappensWhole old new event bytes answered) (s : NodeStep) : Type 0 where
   pub kept : IsKept old
   pub told : IsTold h.before.node

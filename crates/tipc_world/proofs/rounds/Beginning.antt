@@ -1,4 +1,5 @@
--- Stillness may begin in a poised world, and in one in which no link is up: no contact number or epoch is a boot's last.
+-- Stillness may begin in a poised world, and in one in which no link is up: no contact number or epoch is a boot's
+-- last.
 use Rattle.std.specs.Prelude.{◌<◌, ◌==◌, if◌then◌else◌, nat_le, IfSome, option_map}
 use Rattle.std.proofs.Common.{◌≡◌, ◌≢◌, ◌≤◌, ◌%◌, ◌∙◌, ℕ, Bool, true, false, Option, Some, None, slice_index_or, is_some, inl, inr, refl, sym, ap, subst, arith}
 use Rattle.std.proofs.lemmas.Bool.{leb-true, ne_eqb, true≢false}

@@ -1,4 +1,5 @@
--- From one boundary of a calm call to a later one no more is delivered than was left of what was accepted, and what is accepted anew.
+-- From one boundary of a calm call to a later one no more is delivered than was left of what was accepted, and what is
+-- accepted anew.
 use Rattle.std.specs.Prelude.{◌-◌, ◌⊎◌, ◌||◌, is_some, if◌then◌else◌, option_and_then, option_map, unwrap_or}
 use Rattle.std.specs.List.{flat_map}
 use Rattle.std.proofs.Common.{◌≡◌, ◌≤◌, ◌+◌, ◌*◌, ◌∙◌, ℕ, Bool, true, false, List, [], ◌++◌, Option, Some, None, length, slice_index_or, append_assoc, append-nil, inl, inr, refl, sym, ap, subst, arith}

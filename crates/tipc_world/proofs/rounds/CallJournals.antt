@@ -1,4 +1,5 @@
--- What the events of a calm call add to the journals: nothing of links and contacts, and what is delivered is so in the contact in which the node was.
+-- What the events of a calm call add to the journals: nothing of links and contacts, and what is delivered is so in the
+-- contact in which the node was.
 use Rattle.std.specs.Prelude.{cond, count_by, fold, is_some, option_and_then}
 use Rattle.std.proofs.Common.{◌≡◌, ◌∙◌, ℕ, true, false, List, [], ◌∷◌, ◌++◌, Option, Some, None, length, slice_get, slice_index_or, append_assoc, append-nil, inl, inr, refl, sym, ap, arith}
 use Rattle.std.proofs.lemmas.List.Sums.{fold-append, sum_by-append, sum_by-cons}

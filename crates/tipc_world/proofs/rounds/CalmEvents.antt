@@ -1,5 +1,5 @@
--- What a tick and an arrival are at one pair of a calm world: a turn by which nothing is told of its links, in which only packets are heard that come out of the
--- air and show the present.
+-- What a tick and an arrival are at one pair of a calm world: a turn by which nothing is told of its links, in which
+-- only packets are heard that come out of the air and show the present.
 use Rattle.std.proofs.Common.{◌≡◌, ◌≢◌, ◌≤◌, ◌∙◌, ℕ, false, List, [], Option, Some, None, length, refl, ap, subst, arith}
 use Rattle.std.specs.Prelude.{if◌then◌else◌, nat_lt}
 use Rattle.std.specs.List.{filter}

@@ -1,4 +1,5 @@
--- A caster on whose broadcast link nothing is under way: each member that is in contact was given all that was accepted for it there.
+-- A caster on whose broadcast link nothing is under way: each member that is in contact was given all that was accepted
+-- for it there.
 use Rattle.std.proofs.Common.{◌≡◌, ◌≤◌, ◌<◌, ◌-◌, ◌==◌, ◌∙◌, ℕ, zero, suc, Bool, true, false, cond, List, [], ◌∷◌, Option, Some, None, drop, filter, length, map, refl, sym, ap, subst, length-drop, eqb-true, arith}
 use Rattle.std.specs.Prelude.{All}
 use Rattle.std.proofs.lemmas.Bool.Decides.{nat_tests}

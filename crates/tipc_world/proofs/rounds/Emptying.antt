@@ -1,4 +1,5 @@
--- In rounds enough for what is under way in a poised world everything is acknowledged, and all that was accepted between nodes in contact is delivered.
+-- In rounds enough for what is under way in a poised world everything is acknowledged, and all that was accepted
+-- between nodes in contact is delivered.
 use Rattle.std.specs.Prelude.{◌-◌, ◌⊎◌}
 use Rattle.std.proofs.Common.{◌≡◌, ◌≤◌, ◌+◌, ◌*◌, ◌∙◌, ℕ, zero, suc, false, List, Option, Some, None, length, slice_index_or, inl, inr, refl, ap, subst, arith}
 use Rattle.std.proofs.lemmas.Bool.{cases_lt}

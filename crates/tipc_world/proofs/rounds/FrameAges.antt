@@ -1,4 +1,5 @@
--- How old a frame can be that was sent since a moment of a call: what links numbered since, or what waited on broadcast links.
+-- How old a frame can be that was sent since a moment of a call: what links numbered since, or what waited on broadcast
+-- links.
 use Rattle.std.specs.Prelude.{drop, if◌then◌else◌}
 use Rattle.std.proofs.Common.{◌≡◌, ◌≢◌, ◌≤◌, ◌+◌, ◌∙◌, ℕ, Bool, true, false, List, Option, Some, None, length, slice_index_or, refl, sym, ap, subst, arith}
 use Rattle.std.proofs.lemmas.List.{drop_at}

@@ -1,5 +1,5 @@
--- Rounds whose events keep something of every node and of every frame behind the begin of the call, where a tick needs something more of its node: what
--- holds of each node as the round begins, since each node ticks once.
+-- Rounds whose events keep something of every node and of every frame behind the begin of the call, where a tick needs
+-- something more of its node: what holds of each node as the round begins, since each node ticks once.
 use Rattle.std.proofs.Common.{◌≡◌, ◌≤◌, ◌+◌, ◌*◌, ℕ, false, List, [], Some, None, length, slice_get, slice_index_or, inl, inr, sym, ap, subst, ◌∙◌, arith}
 use Rattle.std.specs.Prelude.{◌/◌}
 use Rattle.tipc_types.specs.declared.node_calls.Answer.{Answer}

@@ -1,4 +1,5 @@
--- In a poised world that settles each node hears all others in each round: what each tick says of a link that is up ends the silence at its other end.
+-- In a poised world that settles each node hears all others in each round: what each tick says of a link that is up
+-- ends the silence at its other end.
 use Rattle.std.specs.Prelude.{◌==◌, if◌then◌else◌, nat_le, option_map, IfSome}
 use Rattle.std.specs.List.{filter}
 use Rattle.std.proofs.Common.{List, get_or, ◌≡◌, ◌≢◌, ◌≤◌, ◌<◌, ◌∙◌, ℕ, zero, suc, Bool, true, false, [], Option, Some, None, Ok, length, slice_get, slice_index_or, is_some, eq-eqb, inl, inr, refl, sym, ap, subst, arith}

@@ -1,4 +1,5 @@
--- What one event of a round keeps: the nodes that are there, their boots, their mended bearers, and all that is promised of the world.
+-- What one event of a round keeps: the nodes that are there, their boots, their mended bearers, and all that is
+-- promised of the world.
 use Rattle.std.proofs.Common.{◌≡◌, ◌∙◌, ℕ, Bool, true, false, List, [], Option, Some, None, Ok, if◌then◌else◌, is_some, option_map, unwrap_or, slice_index_or, slice_set, inl, inr, refl, sym, ap, subst, get_or-set_same, get_or-set_other}
 use Rattle.std.specs.Prelude.{◌&&◌}
 use Rattle.std.proofs.lemmas.Bool.{cases_eq}

@@ -1,4 +1,5 @@
--- In a calm world the session of each link that is up goes on, whatever happens: of what was numbered, acknowledged, taken and shown in it nothing is taken back.
+-- In a calm world the session of each link that is up goes on, whatever happens: of what was numbered, acknowledged,
+-- taken and shown in it nothing is taken back.
 use Rattle.std.proofs.Common.{◌≡◌, ◌≢◌, ◌≤◌, ◌∙◌, ℕ, zero, suc, List, [], ◌∷◌, Option, Some, None, slice_index_or, refl, sym, ap, subst, arith}
 use Rattle.std.specs.Prelude.{map}
 use Rattle.tipc_types.specs.declared.link_words.BroadcastState.{BroadcastState}

@@ -67,7 +67,8 @@ arrivals_leave start from P F n Q bearer first outset end count now on_one behin
 abbrev pub ArrivalMakes : WorldState → Places → (ℕ → MemberState → Type 0) → (ℕ → Sent → Type 0) → (MemberState → Type 0) → (bearer n : ℕ) → Sent → Type 0
 ArrivalMakes start from P F Q bearer n f = (old new : WorldState) (a : FrameArrives from old new) → a.node ≡ n → a.bearer ≡ bearer → a.frame ≡ f → Guards start from P F old → SettlesOn old new → F a.bearer a.frame → Q a.arrives.after
 
--- A frame that arrives once leaves its node so at the end of its part, where its arrival makes it so, and no other arrival ends that.
+-- A frame that arrives once leaves its node so at the end of its part, where its arrival makes it so, and no other
+-- arrival ends that.
 pub arrival_leaves : (start : WorldState) (from : Places) (P : ℕ → MemberState → Type 0) (F : ℕ → Sent → Type 0) (Q : MemberState → Type 0) (bearer first end : ℕ) (outset now : WorldState) (place n : ℕ) (f : Sent)
     → bearer ≤ 1 → place_on bearer from ≤ first → first ≤ place → ArrivalsGuarded start from P F → ArrivalsLeave start from P F n Q → ArrivalMakes start from P F Q bearer n f → (once : HasArrivedOnce bearer first end outset now place n f) → age_of once.before.members f n bearer ≤ most_age
     → now.lost ≡ false → Guards start from P F outset → AtNode n Q now

@@ -1,4 +1,5 @@
--- In the first round of a call that begins in a world in which no link is up, each node makes its end to each other one on each bearer that they share.
+-- In the first round of a call that begins in a world in which no link is up, each node makes its end to each other one
+-- on each bearer that they share.
 use Rattle.std.specs.Prelude.{◌==◌, nat_le, not}
 use Rattle.std.specs.List.{filter}
 use Rattle.std.proofs.Common.{◌≡◌, ◌≢◌, ◌≤◌, ◌∙◌, ℕ, zero, suc, Bool, true, false, [], Some, None, length, slice_get, eq-eqb, inl, inr, refl, sym, ap, subst, arith}

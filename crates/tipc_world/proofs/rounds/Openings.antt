@@ -1,4 +1,5 @@
--- A tunnel packet that arrives between two nodes between which nothing goes down names no session above the present one of its sender on that bearer.
+-- A tunnel packet that arrives between two nodes between which nothing goes down names no session above the present one
+-- of its sender on that bearer.
 use Rattle.std.proofs.Common.{◌≡◌, ◌∷◌, ◌≤◌, ◌∙◌, ℕ, zero, suc, true, List, Some, sym, ap, subst, arith}
 use Rattle.tipc_types.specs.declared.link_words.BroadcastState.{BroadcastState}
 use Rattle.tipc_types.specs.declared.packet_lists.Taken.{Taken}

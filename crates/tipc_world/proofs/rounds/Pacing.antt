@@ -1,5 +1,6 @@
--- From a moment of a call on, while what ticks and arrives was sent before it: what each link acknowledged was numbered by then, so it numbers at most a
--- window's packets. And in a calm world its session goes on, and no broadcast link accepts anything.
+-- From a moment of a call on, while what ticks and arrives was sent before it: what each link acknowledged was numbered
+-- by then, so it numbers at most a window's packets. And in a calm world its session goes on, and no broadcast link
+-- accepts anything.
 use Rattle.std.proofs.Common.{◌≡◌, ◌≢◌, ◌≤◌, ◌+◌, ◌∙◌, ℕ, zero, suc, Bool, true, false, List, [], Option, Some, None, length, slice_index_or, inl, inr, refl, sym, ap, subst, arith}
 use Rattle.std.specs.Prelude.{◌==◌, if◌then◌else◌, map, slice_get}
 use Rattle.std.proofs.lemmas.Bool.{cases_lt}

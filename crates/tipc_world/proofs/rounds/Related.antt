@@ -1,4 +1,5 @@
--- Rounds whose events keep a relation of all nodes and of what is in the air, beside what they keep of each node and of each frame.
+-- Rounds whose events keep a relation of all nodes and of what is in the air, beside what they keep of each node and of
+-- each frame.
 use Rattle.std.proofs.Common.{◌≡◌, ◌≤◌, ◌*◌, ℕ, false, [], length, inl, inr, sym, subst, arith}
 use Rattle.std.specs.Prelude.{◌/◌}
 use Rattle.tipc_types.specs.declared.node_calls.Answer.{Answer}

@@ -1,4 +1,5 @@
--- While a world settles in which no link was up, nothing goes down in its first four rounds, and each link that is up is answered.
+-- While a world settles in which no link was up, nothing goes down in its first four rounds, and each link that is up
+-- is answered.
 use Rattle.std.proofs.Common.{◌≡◌, ◌≢◌, ◌≤◌, ◌+◌, ◌∙◌, ℕ, zero, suc, Bool, true, false, [], Option, Some, None, inl, inr, length, slice_get, refl, sym, ap, subst, arith}
 use Rattle.std.proofs.lemmas.Bool.{true≢false}
 use Rattle.tipc_types.specs.declared.link_words.Why.{Why}

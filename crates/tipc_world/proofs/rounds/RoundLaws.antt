@@ -1,4 +1,5 @@
--- What a round is, in its two parts: each node ticks once, and each frame that is in the air then arrives once where it is for.
+-- What a round is, in its two parts: each node ticks once, and each frame that is in the air then arrives once where it
+-- is for.
 use Rattle.std.proofs.Common.{◌≡◌, ◌≤◌, ◌<◌, ◌+◌, ◌∙◌, ℕ, true, false, List, Option, None, Some, if◌then◌else◌, length, slice_get, ap, arith}
 use Rattle.std.specs.List.{filter}
 use Rattle.std.proofs.lemmas.Option.{slice_get_within}

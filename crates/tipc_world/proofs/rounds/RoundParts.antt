@@ -41,7 +41,8 @@ rounds_part start made _ _ _ within (go_on done places before ends now rounds ro
       record { middle = p.middle; between = p.between; front = p.front; rest = one_more done places before ends now p.rest round }
 ]
 
--- What each round keeps, the rounds keep; it may speak of how many were made, and of the places from which frames arrive in the next one.
+-- What each round keeps, the rounds keep; it may speak of how many were made, and of the places from which frames
+-- arrive in the next one.
 pub rounds_keep : (K : ℕ → Places → WorldState → Type 0) (start : WorldState) (rounds : ℕ) (places : Places) (now : WorldState)
     → ((done : ℕ) (places : Places) (before : WorldState) (ends : Places) (after : WorldState) → done < rounds → Rounds start done places before → Round places before (Ok ends) after → after.lost ≡ false
     → K done places before → K (done + 1) ends after)

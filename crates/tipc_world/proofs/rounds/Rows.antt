@@ -1,4 +1,5 @@
--- What each round does for a packet that was numbered in a session in which a link is up: it is shown, asked for, sent again, taken and released.
+-- What each round does for a packet that was numbered in a session in which a link is up: it is shown, asked for, sent
+-- again, taken and released.
 use Rattle.std.specs.Prelude.{◌==◌, ◌&&◌, ◌-◌, Bool, false, if◌then◌else◌, is_some, map, slice_get}
 use Rattle.std.specs.List.{Contains}
 use Rattle.std.proofs.Common.{◌≡◌, ◌≢◌, ◌≤◌, ◌<◌, ◌+◌, ◌⊎◌, ◌∙◌, ◌^◌, ℕ, true, List, [], Some, None, eq-eqb, get_or, length, slice_index_or, inl, inr, refl, sym, ap, subst, arith}

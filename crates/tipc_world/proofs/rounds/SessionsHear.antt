@@ -64,7 +64,8 @@ clear_here start kept_start old new a g b number apart es er p brings kind_is si
     nothing_stops h.before.node a.bearer a.frame.frame b es er p brings kind_is mended (leb-true 16 (length a.frame.frame) both.0) (leb-true (length a.frame.frame) 1516 both.1)
     (subst (λ w. is_other w (node_word b) ≡ true) (sym word) (other_is n b number apart)) (ap is_some e.with_it)
 
--- A packet of node b that arrives where the link to b is up, under the present epochs of both, is heard in the session there.
+-- A packet of node b that arrives where the link to b is up, under the present epochs of both, is heard in the session
+-- there.
 pub session_hears : (start : WorldState) → IsKept start → IsPoised start → (old new : WorldState) (a : FrameArrives (ends_of start.air) old new) → IsCalmWorld start old → IsFromMended start a.bearer a.frame
     → (b : ℕ) → IsNumber b → a.node ≢ b → (es er : ℕ) (p : Fields) → IsFrom b a.frame.frame es er p → kind_in a.frame.frame ≡ Links → is_traffic p.header ≡ true → es ≡ (footing_at start b a.node).epoch a.bearer → er ≡ (footing_at start a.node b).epoch a.bearer
     → (side : UpSide start old a.node b a.bearer a.arrives.before) → NodeHears a.arrives.after.node a.arrives.frames b a.bearer (length a.arrives.before.arrivals) p side.session

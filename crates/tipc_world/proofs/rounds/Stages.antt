@@ -1,4 +1,5 @@
--- Each round in which all ends are made takes the ends on each shared bearer one step further: they see the contact number, answer, and are up.
+-- Each round in which all ends are made takes the ends on each shared bearer one step further: they see the contact
+-- number, answer, and are up.
 use Rattle.std.specs.List.{filter}
 use Rattle.std.proofs.Common.{◌≡◌, ◌≢◌, ◌≤◌, ◌+◌, ◌*◌, ◌∙◌, ℕ, zero, suc, true, List, [], Some, None, length, slice_get, slice_index_or, eqb-true, sym, subst, arith}
 use Rattle.tipc_types.specs.Address.{node_word}
@@ -212,7 +213,8 @@ module _ (start : WorldState) (most step : ℕ) (places : Places) (outset : Worl
   still_outset : IsStillWorld start outset
   still_outset = rising_is_still start most outset (met_rises start most step outset k.met)
 
-  -- A frame of the link leaves node n so at the end of the round, where its arrival makes it so and all others leave it so.
+  -- A frame of the link leaves node n so at the end of the round, where its arrival makes it so and all others leave it
+  -- so.
   pub brings_it : (b n bearer : ℕ) (t : HasTickedOnce outset r.ticked b) (o : Outgoing) (Q : PairEnds → Type 0) → ShareBearer start n b bearer → IsAmong b n bearer t o → kind_in o.frame ≡ Links
       → ArrivalsLeave start (ends_of start.air) (IsMetNode start (most + 1) step) (IsFromMended start) n (λ m. Q (pair_with m.node b))
       → ArrivalMakes start (ends_of start.air) (IsMetNode start (most + 1) step) (IsFromMended start) (λ m. Q (pair_with m.node b)) bearer n (airborne (contact_at t.before.members b) t.after.members b o)

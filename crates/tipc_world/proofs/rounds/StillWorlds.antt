@@ -1,4 +1,5 @@
--- While a world settles nothing goes down: each event keeps each two nodes still, and what leaves shows what its sender has at present.
+-- While a world settles nothing goes down: each event keeps each two nodes still, and what leaves shows what its sender
+-- has at present.
 use Rattle.std.proofs.Common.{◌≡◌, ◌≢◌, ◌≤◌, ◌<◌, ◌^◌, ◌∙◌, ℕ, zero, suc, true, false, List, [], Option, Some, None, length, slice_get, slice_index_or, is_some, eqb-true, refl, sym, ap, subst, arith}
 use Rattle.std.specs.Prelude.{◌==◌}
 use Rattle.std.proofs.lemmas.Bool.{and_parts}
@@ -173,7 +174,8 @@ still_epoch own peer v zero on_one still = still_end own peer v.node.seen v.node
 still_epoch own peer v (suc zero) on_one still = still_end own peer v.node.seen v.node.contact 1 (v.ends 1) still.contact still.far
 still_epoch own peer v (suc (suc more)) on_one still = absurd (omega (arith, on_one))
 
--- A frame in the air is of a link end that is made, where it is under no lower epoch than the contact number of its sender.
+-- A frame in the air is of a link end that is made, where it is under no lower epoch than the contact number of its
+-- sender.
 pub no_end_below : (v w : Sight) (place : ℕ) (f : Frame) → AreSeen v w → slice_get v.sent place ≡ Some f → v.ends f.bearer ≡ None → es_of f.bytes < v.node.contact
 no_end_below v w place f h there none =
     let t = h.seen_here.sent place f there in

@@ -227,8 +227,8 @@ all_most (m ∷ ms) =
     let all = sum_by-cons weight_of m ms in
     omega (arith, first, others, all)
 
--- Of what was delivered so far, a front of what was accepted so far, more is a front of more: then no more is new than what is accepted anew and what was
--- left before.
+-- Of what was delivered so far, a front of what was accepted so far, more is a front of more: then no more is new than
+-- what is accepted anew and what was left before.
 pub left_bounds : (given put more_given more_put : List Message) → IsPrefixOf given put → IsPrefixOf (given ++ more_given) (put ++ more_put) → weight_all more_given ≤ weight_all more_put + 3 * (length put - length given)
 left_bounds given put more_given more_put (left, was) (rest, is) =
     let whole = ap weight_all is in

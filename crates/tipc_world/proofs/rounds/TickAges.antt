@@ -1,5 +1,6 @@
--- In a round in which nothing goes down no link frame that leaves at a tick is too old when it arrives: since then each link, be it one that comes up in
--- the round, numbers at most two windows' packets, and no broadcast link accepts anything.
+-- In a round in which nothing goes down no link frame that leaves at a tick is too old when it arrives: since then each
+-- link, be it one that comes up in the round, numbers at most two windows' packets, and no broadcast link accepts
+-- anything.
 use Rattle.std.proofs.Common.{◌≡◌, ◌≢◌, ◌≤◌, ◌<◌, ◌+◌, ◌*◌, ◌∙◌, ℕ, false, true, [], Option, None, Some, length, slice_index_or, is_some, inl, inr, refl, sym, ap, subst, arith}
 use Rattle.std.specs.Prelude.{◌/◌, drop}
 use Rattle.std.proofs.lemmas.List.{drop_at}
@@ -62,7 +63,8 @@ use Rattle.tipc_world.proofs.rounds.Young.{stood_there}
 
 -- ---- what is carried
 
--- node n since a moment: its links acknowledged no more than what was numbered by then, and its broadcast link accepted nothing
+-- node n since a moment: its links acknowledged no more than what was numbered by then, and its broadcast link accepted
+-- nothing
 record IsSlow (base : WorldState) (n : ℕ) (m : MemberState) : Type 0 where
   acked : (b : ℕ) → IsNumber b → n ≢ b → AreAckedTo (most_at base n b) (pair_with m.node b)
   casts : accepted m.node.casting.sending ≡ casts_at base n

@@ -1,4 +1,5 @@
--- In a round of a calm world each link that is up tells the STATE of its session, as it stood when the round began; and that is heard at the other end.
+-- In a round of a calm world each link that is up tells the STATE of its session, as it stood when the round began; and
+-- that is heard at the other end.
 use Rattle.std.specs.Prelude.{if◌then◌else◌, slice_get}
 use Rattle.std.specs.List.{filter}
 use Rattle.std.proofs.Common.{◌≡◌, ◌≢◌, ◌≤◌, ◌<◌, ◌+◌, ◌*◌, ◌∙◌, ℕ, zero, suc, Bool, true, false, List, [], Some, None, get_or, length, slice_index_or, is_some, eq-eqb, refl, sym, ap, subst, arith}
@@ -125,8 +126,8 @@ tick_state start outset ticked b n bearer t u kept_start g heard g_before b_is n
 
 -- ---- it is heard
 
--- Node n heard a frame of node b in a round: the worlds before and after, the sessions at both ends before, what the session at n became, and what both went on
--- from since the round began; from there on all sessions go on to its end.
+-- Node n heard a frame of node b in a round: the worlds before and after, the sessions at both ends before, what the
+-- session at n became, and what both went on from since the round began; from there on all sessions go on to its end.
 pub record IsHeardOnce (start outset ticked now : WorldState) (b n bearer : ℕ) (p : Fields) : Type 0 where
   pub before : WorldState
   pub behind : length (air_on bearer ticked.air) ≤ length (air_on bearer before.air)
@@ -285,7 +286,8 @@ frame_heard start places outset ends now r b n (suc zero) place f p k b_is n_is 
     (λ w g going. going) k.whole brings kind_is traffic (longer r.ticked r.between (arrivals_go_on 0 places.first r.ticked _ r.arrivals r.between (omega arith) r.first_part goes.clear_between).grown 1)
 frame_heard start places outset ends now r b n (suc (suc more)) place f p k b_is n_is apart on_one up from here brings kind_is traffic = absurd (omega (arith, on_one))
 
--- A frame of any kind arrived at node n in a round: the worlds before and after, and what all went on from since the round began.
+-- A frame of any kind arrived at node n in a round: the worlds before and after, and what all went on from since the
+-- round began.
 pub record ArrivedOnce (start outset now : WorldState) (n bearer : ℕ) (f : Sent) : Type 0 where
   pub place : ℕ
   pub behind : place_on bearer (ends_of start.air) ≤ place

@@ -1,4 +1,5 @@
--- In a world that settles a STATE or a numbered packet in the air was sent by a link that is up, under the epochs that both nodes have at present.
+-- In a world that settles a STATE or a numbered packet in the air was sent by a link that is up, under the epochs that
+-- both nodes have at present.
 use Rattle.std.specs.Prelude.{slice_get}
 use Rattle.std.proofs.Common.{◌≡◌, ◌≢◌, ◌<◌, ◌≤◌, ◌^◌, ◌∙◌, ℕ, true, Option, Some, None, slice_index_or, refl, sym, ap, subst, arith}
 use Rattle.tipc_types.specs.LinkStates.{is_up}

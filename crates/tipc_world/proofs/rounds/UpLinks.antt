@@ -1,5 +1,5 @@
--- The ends of links that are up in a world that settles: each is in a session of both nodes' present epochs. And of a link that was up when the call began
--- both ends are up in a calm world, and joined.
+-- The ends of links that are up in a world that settles: each is in a session of both nodes' present epochs. And of a
+-- link that was up when the call began both ends are up in a calm world, and joined.
 use Rattle.std.specs.Prelude.{◌==◌, if◌then◌else◌, slice_get}
 use Rattle.std.proofs.Common.{◌≡◌, ◌≢◌, ◌≤◌, ◌+◌, ◌∙◌, ℕ, zero, suc, Bool, true, List, length, Option, Some, None, slice_index_or, is_some, inl, inr, refl, sym, ap, subst, arith}
 use Rattle.std.proofs.lemmas.Bool.{true≢false}
@@ -107,7 +107,8 @@ own_record v w bearer e s h is up has =
 
 -- ---- one end of the link
 
--- Node a of a world is up with node b on a bearer: in a session of the epochs that both have at present, whose record is of the peer's.
+-- Node a of a world is up with node b on a bearer: in a session of the epochs that both have at present, whose record
+-- is of the peer's.
 pub record UpSide (start w : WorldState) (a b bearer : ℕ) (m : MemberState) : Type 0 where
   pub link : UpLink m.node b bearer
   pub session : SessionEnd

@@ -1,4 +1,5 @@
--- Where packets of links are under way at a node of a calm world, one isn't acknowledged on a link that was up when the call began.
+-- Where packets of links are under way at a node of a calm world, one isn't acknowledged on a link that was up when the
+-- call began.
 use Rattle.std.specs.Prelude.{IfSome, if◌then◌else◌}
 use Rattle.std.proofs.Common.{◌≡◌, ◌≢◌, ◌≤◌, ◌∙◌, ℕ, suc, Bool, true, false, List, [], ◌∷◌, Option, Some, None, length, slice_index_or, sum_by, inl, inr, refl, sym, ap, subst, arith}
 use Rattle.std.proofs.lemmas.Bool.{cases_lt}

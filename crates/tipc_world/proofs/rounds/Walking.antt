@@ -90,8 +90,8 @@ round_on call from K places start ends now each behind r whole h =
     let after = arrivals_on call from K 1 places.second r.between (numbers * length r.ticked.air.second) r.others now (omega arith) behind.1 each r.second_part whole between in
     record { ticks = ticked; round = after }
 
--- So far in a call that settles: the world goes on, and the places from which frames arrive in the next round aren't before the ends of the air at the
--- begin of the call, nor behind those of now.
+-- So far in a call that settles: the world goes on, and the places from which frames arrive in the next round aren't
+-- before the ends of the air at the begin of the call, nor behind those of now.
 record SoFar (start : WorldState) (K : WorldState → Type 0) (places : Places) (w : WorldState) : Type 0 where
   stands : Stands start K w
   behind : AreBefore (ends_of start.air) places

@@ -1,4 +1,5 @@
--- In a poised world that settles no frame is too old when it arrives: between its sending and its arrival each link numbers at most three windows.
+-- In a poised world that settles no frame is too old when it arrives: between its sending and its arrival each link
+-- numbers at most three windows.
 use Rattle.std.proofs.Common.{◌≡◌, ◌≤◌, ◌<◌, ◌+◌, ◌*◌, ◌∙◌, ℕ, false, List, [], Some, None, length, get_or, slice_index_or, inl, inr, refl, sym, ap, subst, arith}
 use Rattle.std.specs.Prelude.{◌/◌, is_some, slice_get}
 use Rattle.std.proofs.lemmas.Option.{slice_get-get_or}
@@ -51,7 +52,8 @@ numbers_then start a b c first then h k = record {
 
 -- ---- what is carried from a moment on
 
--- The world goes on calmly from a moment; each node is paced since; and the frames behind some places were sent since the moment, or an earlier one.
+-- The world goes on calmly from a moment; each node is paced since; and the frames behind some places were sent since
+-- the moment, or an earlier one.
 record Runs (start first base : WorldState) (places : Places) (w : WorldState) : Type 0 where
   calm : IsCalmWorld start w
   on : SettlesOn base w
@@ -161,7 +163,8 @@ arrivals_run start first base places bearer from outset end count now c on_one b
 
 -- ---- an age in the arrivals
 
--- A frame that arrives once, behind some places: it was sent since an earlier moment, and since then at most three windows were numbered on each link.
+-- A frame that arrives once, behind some places: it was sent since an earlier moment, and since then at most three
+-- windows were numbered on each link.
 once_young : (start first outset base : WorldState) (places : Places) (bearer from end : ℕ) (before_part now : WorldState) (place n : ℕ) (f : Sent) → Course start first base → NumbersFew start first outset 50 → NumbersFew start outset base 50 → bearer ≤ 1 → place_on bearer (ends_of start.air) ≤ from
     → place_on bearer places ≤ from → end ≤ length (air_on bearer base.air) → IsNumber n → (once : HasArrivedOnce bearer from end before_part now place n f) → Runs start first base places before_part → age_of once.before.members f n bearer ≤ 30000
 once_young start first outset base places bearer from end before_part now place n f c one two on_one behind from_places within n_is once runs =
@@ -187,7 +190,8 @@ begins_young start = record { base = start; numbers = numbers_same start start 5
 all_paced : (start base : WorldState) → IsKept base → CastsNothing start base → EachNode (IsPaced start base) base
 all_paced start base kept casts n m there = paced_begins start base n m kept there (casts n (ap (λ o. is_some o) there))
 
--- In a round whose frames are young when it begins, none is too old when it arrives, and its frames are young when it ends.
+-- In a round whose frames are young when it begins, none is too old when it arrives, and its frames are young when it
+-- ends.
 pub round_young : (start : WorldState) (places : Places) (outset : WorldState) (ends : Places) (now : WorldState) → IsKept start → IsPoised start → AreBefore (ends_of start.air) places
     → (r : IsRound places outset ends now) → now.lost ≡ false → IsCalmWorld start outset → EachNode HasHeardAll outset → AreYoung start places outset → ArriveYoung places outset ends now r × AreYoung start ends now
 round_young start places outset ends now kept poised behind r whole calm heard young =
