@@ -6,8 +6,8 @@ use std::marker::Model;
 use tipc_recv_window::{LinkOutcome, WindowArrival};
 use tipc_types::Addr;
 
-/// What a broadcast packet will make of a broadcast link, and the memory that it takes: [`crate::Broadcast::prepare`] tells it,
-/// and [`crate::Broadcast::commit`] does it.
+/// What a broadcast packet will make of a broadcast link, and the memory that it takes: [`crate::Broadcast::prepare`]
+/// tells it, and [`crate::Broadcast::commit`] does it.
 #[derive(Drop)]
 pub struct CastArriving {
     /// The node from which it comes.

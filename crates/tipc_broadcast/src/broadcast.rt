@@ -23,8 +23,8 @@ use tipc_types::{
     Addr, BroadcastState, Kept, NoMemory, Pieces, To, Why, number_distance, sequence_number,
 };
 
-/// How often packets are released and move up when a peer leaves: at most 246 wait, of which 50 move up at once, and those that moved up last are
-/// released.
+/// How often packets are released and move up when a peer leaves: at most 246 wait, of which 50 move up at once, and
+/// those that moved up last are released.
 const ROUNDS_OF_DEPARTURE: u32 = 6;
 
 /// The broadcast link of a node in one boot: one stream of packets to all peers in contact, and what the node takes
@@ -364,8 +364,8 @@ impl Broadcast {
             .retain(|contact| contact.peer.word != peer.word);
     }
 
-    /// Releases every packet that all peers in contact acknowledged, and sends what then has room, until nothing that waits is for nobody:
-    /// what nobody is to have is released as soon as it was sent.
+    /// Releases every packet that all peers in contact acknowledged, and sends what then has room, until nothing that
+    /// waits is for nobody: what nobody is to have is released as soon as it was sent.
     fn move_up(&mut self, alloc: Global, out: &mut Outbox)
         ensures after { self.new ≡ moved_up rounds_of_departure self.old }
         ensures frames { Adds out.old out.new (moved_up_frames rounds_of_departure self.old) }
@@ -437,7 +437,8 @@ impl Broadcast {
         self.window.unacked()
     }
 
-    /// Sends the unacknowledged packets again that are among the `gap` ones behind an acknowledgement. (TIPC 2.0 draft.)
+    /// Sends the unacknowledged packets again that are among the `gap` ones behind an acknowledgement. (TIPC 2.0
+    /// draft.)
     fn repeat(&self, alloc: Global, acknowledgement: u16, gap: u16, out: &mut Outbox)
         ensures frames { Adds out.old out.new (repeat_frames self.now acknowledgement gap) }
         ensures short { All IsShort (repeat_frames self.now acknowledgement gap) }
@@ -486,15 +487,15 @@ impl Broadcast {
         }
     }
 
-    /// What a broadcast packet that arrived will make of the broadcast link. It comes from a boot of its previous node and is for
-    /// a set of members: bit `n - 1` stands for node `n`. `by` is the arrival's number at this node.
+    /// What a broadcast packet that arrived will make of the broadcast link. It comes from a boot of its previous node
+    /// and is for a set of members: bit `n - 1` stands for node `n`. `by` is the arrival's number at this node.
     ///
-    /// It is ignored, in this order, with `Epoch` where the previous node is in contact with another boot number,
-    /// with `OutOfStep` where it isn't in contact or this node isn't in step with its broadcast, and with `NotMember`
-    /// where this node isn't a member. Else it is taken where it is the wanted one, and with it those behind it that
-    /// are held; it is deferred where it is one of the next 49 and isn't held; else it is ignored with `Old`. A packet
-    /// that is taken is given as it was accepted. Nothing is changed yet: [`Broadcast::commit`] does it. (TIPC 2.0 draft; boot
-    /// and members: this project's profile.)
+    /// It is ignored, in this order, with `Epoch` where the previous node is in contact with another boot number, with
+    /// `OutOfStep` where it isn't in contact or this node isn't in step with its broadcast, and with `NotMember` where
+    /// this node isn't a member. Else it is taken where it is the wanted one, and with it those behind it that are
+    /// held; it is deferred where it is one of the next 49 and isn't held; else it is ignored with `Old`. A packet that
+    /// is taken is given as it was accepted. Nothing is changed yet: [`Broadcast::commit`] does it. (TIPC 2.0 draft;
+    /// boot and members: this project's profile.)
     ///
     /// # Errors
     ///
@@ -529,8 +530,8 @@ impl Broadcast {
         })
     }
 
-    /// Takes a broadcast packet that arrived, as [`Broadcast::prepare`] told of it when the broadcast link was as it is, and
-    /// answers what it told. It takes no memory.
+    /// Takes a broadcast packet that arrived, as [`Broadcast::prepare`] told of it when the broadcast link was as it
+    /// is, and answers what it told. It takes no memory.
     pub fn commit(&mut self, cast: CastArriving) -> LinkOutcome
         requires { (boot members by : ℕ) × (p : Fields) × (cast ≡ coming_at self.old boot members p by) }
         ensures outcome { result ≡ cast.outcome }
@@ -547,7 +548,8 @@ impl Broadcast {
         outcome
     }
 
-    /// Lets the receive window of a node's broadcast do what a packet makes of it; nothing, where the node isn't in contact.
+    /// Lets the receive window of a node's broadcast do what a packet makes of it; nothing, where the node isn't in
+    /// contact.
     fn take(&mut self, peer: Addr, window: Option<WindowArrival>)
         requires { (boot members : ℕ) × (t : Taken) ×
             (window ≡ coming_of self.old boot members t (contact_with peer.word self.old.contacts)) }

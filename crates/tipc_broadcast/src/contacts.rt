@@ -185,8 +185,8 @@ impl Contact {
         Ok((Some(arrival), outcome))
     }
 
-    /// What a packet of this boot of the peer for these members will make of the receive window, where it isn't ignored, and what
-    /// its arrival answers. Memory is asked for only where the packet isn't refused.
+    /// What a packet of this boot of the peer for these members will make of the receive window, where it isn't
+    /// ignored, and what its arrival answers. Memory is asked for only where the packet isn't refused.
     pub(crate) fn prepare(
         &self,
         alloc: Global,

@@ -1,5 +1,5 @@
-//! What is promised of a caster and its members, and how calls of the broadcast link are events of that law. The functions do
-//! nothing: their contracts are the laws.
+//! What is promised of a caster and its members, and how calls of the broadcast link are events of that law. The
+//! functions do nothing: their contracts are the laws.
 ghost use Rattle.tipc_broadcast_law.specs.Lines.{JoinLines, LeaveLines, SendLines, StateLines};
 ghost use Rattle.tipc_broadcast_law.specs.Listening.{EnterRuns, HearRuns, QuitRuns, TakenIsShown, TellRuns};
 ghost use Rattle.tipc_broadcast_law.specs.Promises.{AcknowledgedIsTaken, AllAreNear, AllReleaseInOrder, BeginsSound, EventsKeep, MessagesStandTogether, PacketsAreNear, RunsKeep, TakesAPrefix, WindowOf50};
@@ -53,8 +53,8 @@ pub fn numbers_tell_places()
     ensures { PacketsAreNear }
 {}
 
-/// The same is so of a packet that is for the member in another contact than that in which it is: it lies before the place that
-/// the member wants, or is for it in that contact.
+/// The same is so of a packet that is for the member in another contact than that in which it is: it lies before the
+/// place that the member wants, or is for it in that contact.
 pub fn packets_of_other_contacts_are_near()
     ensures { AllAreNear }
 {}
@@ -104,8 +104,8 @@ pub fn states_show_the_start()
     ensures { StartsAreShown }
 {}
 
-/// What a member's STATE told of the place up to which it has everything is told by its number of 16 bits, where at most 30,000
-/// packets were numbered since: also where the member took nothing yet.
+/// What a member's STATE told of the place up to which it has everything is told by its number of 16 bits, where at
+/// most 30,000 packets were numbered since: also where the member took nothing yet.
 pub fn states_show_what_was_taken()
     ensures { ToldPlacesShow }
 {}
@@ -125,8 +125,8 @@ pub fn being_told_is_an_event()
     ensures { TellRuns }
 {}
 
-/// The arrival of any broadcast packet at a member is a run of the law: whatever its place, its boot and its number. It takes the packets
-/// at the place that the member wants, one after the other, and gives just these.
+/// The arrival of any broadcast packet at a member is a run of the law: whatever its place, its boot and its number. It
+/// takes the packets at the place that the member wants, one after the other, and gives just these.
 pub fn hearing_is_a_run()
     ensures { HearRuns }
 {}
@@ -136,8 +136,9 @@ pub fn states_show_what_is_wanted()
     ensures { TakenIsShown }
 {}
 
-/// What is unacknowledged and what waits are the frames of the packets at their places, each with the set of the members for which it was
-/// accepted. So it is after a message was sent, and each frame that leaves is one of a packet that has its number.
+/// What is unacknowledged and what waits are the frames of the packets at their places, each with the set of the
+/// members for which it was accepted. So it is after a message was sent, and each frame that leaves is one of a packet
+/// that has its number.
 pub fn sending_keeps_the_lines()
     ensures { SendLines }
 {}
@@ -152,8 +153,8 @@ pub fn leaving_keeps_the_lines()
     ensures { LeaveLines }
 {}
 
-/// So it is after a STATE of a peer, and each frame that leaves then, also one that is sent again, is one of a packet that has its
-/// number, for the members for which it was accepted.
+/// So it is after a STATE of a peer, and each frame that leaves then, also one that is sent again, is one of a packet
+/// that has its number, for the members for which it was accepted.
 pub fn a_state_keeps_the_lines()
     ensures { StateLines }
 {}

@@ -1,4 +1,5 @@
-//! Laws of a broadcast that is made whole again: what a member lost on the way is missed, told, sent again, taken and acknowledged.
+//! Laws of a broadcast that is made whole again: what a member lost on the way is missed, told, sent again, taken and
+//! acknowledged.
 #![tactic(auto)]
 
 pub mod laws;

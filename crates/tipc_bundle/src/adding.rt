@@ -87,16 +87,17 @@ fn bundle_with_packet(
     bundle_bytes(alloc, count + 1, rest.as_slice())
 }
 
-/// The bundle of the packets that wait in `last` and a new one behind them: a packet becomes the bundle of itself and the new
-/// one, and a bundle gets one more inner packet. (TIPC 2.0 draft; the limit and the padding are this project's profile.)
+/// The bundle of the packets that wait in `last` and a new one behind them: a packet becomes the bundle of itself and
+/// the new one, and a bundle gets one more inner packet. (TIPC 2.0 draft; the limit and the padding are this project's
+/// profile.)
 ///
-/// `packet` may stand inside a bundle: it is payload or name items, under any numbers. `last` is such a packet, or a bundle
-/// that this call made.
+/// `packet` may stand inside a bundle: it is payload or name items, under any numbers. `last` is such a packet, or a
+/// bundle that this call made.
 ///
 /// # Errors
 ///
-/// `Full` exactly where the bundle would have more than 1,452 bytes, whether there is memory or not; else `NoMemory` where
-/// memory runs out.
+/// `Full` exactly where the bundle would have more than 1,452 bytes, whether there is memory or not; else `NoMemory`
+/// where memory runs out.
 pub fn with_added(alloc: Global, last: &[u8], packet: &[u8]) -> Result<Bytes, BundleFault>
     requires last { (packets : List (List ℕ)) × Carries last.now packets }
     requires packet { IsInner packet.now }

@@ -8,8 +8,8 @@ ghost use Rattle.tipc_header.specs.Spelling.{spelling};
 ghost use Rattle.tipc_bundle.specs.Bundles.{bundle_of, joined, padded_size, Carries, IsInner};
 ghost use Rattle.tipc_bundle.specs.Splitting.{AreInside, IsBundle, IsFirstBad};
 
-/// Packets that were joined are split again: several inner packets, however many, are joined to a bundle, and they and no
-/// others stand in it, in their order.
+/// Packets that were joined are split again: several inner packets, however many, are joined to a bundle, and they and
+/// no others stand in it, in their order.
 pub fn joined_packets_are_split_again()
     ensures bundle { (packets : List (List ℕ)) → All IsInner packets → 2 ≤ length packets →
         length (joined packets) < 2 ^ 17 → IsBundle (joined packets) }
@@ -31,8 +31,8 @@ pub fn sent_packets_are_split_again()
         AreInside packets (stamped acknowledgement sequence previous (joined packets)) }
 {}
 
-/// Several packets that were joined are spelled as one packet, which the grammar of packets allows: a header of 40 bytes, and
-/// each of them in as many bytes as its size, rounded up to a multiple of 4.
+/// Several packets that were joined are spelled as one packet, which the grammar of packets allows: a header of 40
+/// bytes, and each of them in as many bytes as its size, rounded up to a multiple of 4.
 pub fn joined_packets_are_a_packet()
     ensures spelled { (packets : List (List ℕ)) → 2 ≤ length packets → joined packets ≡ spelling (bundle_of packets) }
     ensures size { (packets : List (List ℕ)) → 2 ≤ length packets →

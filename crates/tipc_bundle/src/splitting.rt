@@ -91,8 +91,8 @@ fn inner_packets(alloc: Global, bundle: &[u8], count: u16) -> Result<Inner, NoMe
 ///
 /// # Errors
 ///
-/// `BadInner` exactly where they aren't as the bundle's format asks, and then with the first bad place, whether there is
-/// memory or not; else `NoMemory` where memory runs out.
+/// `BadInner` exactly where they aren't as the bundle's format asks, and then with the first bad place, whether there
+/// is memory or not; else `NoMemory` where memory runs out.
 pub fn split(alloc: Global, bundle: &[u8]) -> Result<Inner, SplitFault>
     requires { IsBundle bundle.now }
     // What is given stands in the bundle.

@@ -14,8 +14,9 @@ pub enum Standing {
     Higher,
 }
 
-/// The contact numbers of a node and a peer: the node's own, and the highest that the peer has shown, 0 where it has shown
-/// none. They have a boot number in their upper 32 bits, and a count from 1 in the lower ones. (This project's profile.)
+/// The contact numbers of a node and a peer: the node's own, and the highest that the peer has shown, 0 where it has
+/// shown none. They have a boot number in their upper 32 bits, and a count from 1 in the lower ones. (This project's
+/// profile.)
 #[derive(Clone, Copy, Debug, PartialEq, Eq)]
 pub struct Contact {
     /// The node's own number.

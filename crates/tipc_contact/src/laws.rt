@@ -17,9 +17,9 @@ pub fn two_nodes_stay_peers()
         ArePeers b said_b a said_a }
 {}
 
-/// A frame that shows the two epochs of a link end, its peer's and its own, was sent in the contact in which the end is now:
-/// the sender's contact number then is the highest that the end's node has seen, and the highest that the sender had seen is
-/// the end's node's own. So the two ends of a session are in one contact.
+/// A frame that shows the two epochs of a link end, its peer's and its own, was sent in the contact in which the end is
+/// now: the sender's contact number then is the highest that the end's node has seen, and the highest that the sender
+/// had seen is the end's node's own. So the two ends of a session are in one contact, but for one of the last epoch.
 pub fn a_session_is_in_one_contact()
     ensures sent { (a b : Side) (said_a said_b : List Notice) → ArePeers a said_a b said_b →
         (place : ℕ) (m : Notice) (end : Fsm) → slice_get said_a place ≡ Some m →
@@ -38,9 +38,10 @@ pub fn contact_numbers_rise()
     ensures higher { (a : Side) → a.own < (acted a Action.ContactEnded).own }
 {}
 
-/// Two nodes that know nothing of each other agree on the order of their contacts, and go on to agree, whatever either of them does
-/// and says: where the one has seen a higher number of the other than the other shows in a notice, the other hasn't seen a higher
-/// number than the one shows. A higher number that a node takes from the other was shown by it.
+/// Two nodes that know nothing of each other agree on the order of their contacts, and go on to agree, whatever either
+/// of them does and says: where the one has seen a higher number of the other than the other shows in a notice, the
+/// other hasn't seen a higher number than the one shows. A higher number that a node takes from the other was shown by
+/// it.
 pub fn two_nodes_stay_in_order()
     ensures start { (a b : ℕ) → AreInOrder (alone a) [] (alone b) [] }
     ensures acts { (a b : Side) (said_a said_b : List Notice) (action : Action) → AreInOrder a said_a b said_b →

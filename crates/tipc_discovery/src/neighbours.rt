@@ -18,7 +18,8 @@ use tipc_types::{Addr, NoMemory, Why};
 /// The identity of the network. (This project's profile.)
 pub const NETWORK: u32 = 4_711;
 
-/// The other nodes of the cluster that a node heard, on each of its two bearers, in the order in which it first heard them.
+/// The other nodes of the cluster that a node heard, on each of its two bearers, in the order in which it first heard
+/// them.
 #[derive(Drop)]
 pub struct Neighbours {
     own: Addr,
@@ -133,9 +134,9 @@ impl Neighbours {
 
     /// Hears a discovery packet on a bearer, 0 or 1. (This project's profile.)
     ///
-    /// It is ignored as `Own` where the previous node is this one or none of the 32; else as `Network` where it is no discovery
-    /// packet of the network 4711; else its previous node is `Known` where it was heard on that bearer before, and `New` where
-    /// it wasn't.
+    /// It is ignored as `Own` where the previous node is this one or none of the 32; else as `Network` where it is no
+    /// discovery packet of the network 4711; else its previous node is `Known` where it was heard on that bearer
+    /// before, and `New` where it wasn't.
     ///
     /// # Errors
     ///

@@ -4,9 +4,9 @@ ghost use Rattle.std.specs.Prelude.{◌≡◌, ◌+◌, ◌*◌, ◌<◌, ◌≤
 ghost use Rattle.tipc_header.specs.Reading.{word_at, bits, field, flag, long_at};
 ghost use Rattle.tipc_header.specs.Faults.{all_zero};
 
-/// The word of this index.
+/// The word of this index, 32 bits in network order; the first has index 0 (TIPC 2.0 draft).
 #[tactic(auto, unfolding(crate::specs::Reading::word_at))]
-pub(crate) fn word(bytes: &[u8], index: usize) -> u32
+pub fn word(bytes: &[u8], index: usize) -> u32
     requires { 4 * index + 4 ≤ length bytes.now }
     ensures { result ≡ word_at index bytes.now }
 {
@@ -64,8 +64,9 @@ pub(crate) fn is_set(bytes: &[u8], index: usize, place: u32) -> bool
     field_of(bytes, index, place, place) == 1
 }
 
-/// The number of 64 bits that begins with the word of this index.
-pub(crate) fn long(bytes: &[u8], index: usize) -> u64
+/// The number of 64 bits that begins with the word of this index, its high half first, as epochs and contact numbers
+/// stand in packets (this project's profile).
+pub fn long(bytes: &[u8], index: usize) -> u64
     requires { 4 * index + 8 ≤ length bytes.now }
     ensures { result ≡ long_at index bytes.now }
 {

@@ -31,7 +31,8 @@ pub struct Frame<'a> {
 pub enum FrameKind {
     /// A discovery packet, by which nodes find one another.
     Finds,
-    /// A broadcast packet, which a node casts to all of its peers: payload or a fragment, under the boot number of its sender.
+    /// A broadcast packet, which a node casts to all of its peers: payload or a fragment, under the boot number of its
+    /// sender.
     Casts,
     /// A link packet: every other one. Those that a link sends are under its epoch, which is 2^32 or more.
     Links,

@@ -12,6 +12,7 @@ mod packet;
 mod reading;
 mod reserved;
 
+pub use bits::{long, word};
 pub use contents::{HeaderContent, Notice};
 pub use decoding::{CHANGEOVER_USER, decode, message_size, user_number};
 pub use encoding::encode;

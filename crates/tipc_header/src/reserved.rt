@@ -6,8 +6,8 @@ ghost use Rattle.tipc_header.specs.Faults.{word_0_is_clean, payload_is_clean, bu
 
 use crate::bits::{are_zero, field_of, word};
 
-/// Whether word 0 is allowed for this user: bit 17 is zero, bit 20 is set exactly where the user's packets have no number,
-/// and only a message between ports may be dropped.
+/// Whether word 0 is allowed for this user: bit 17 is zero, bit 20 is set exactly where the user's packets have no
+/// number, and only a message between ports may be dropped.
 #[tactic(auto, unfolding(crate::specs::Faults::word_0_is_clean))]
 pub(crate) fn is_first_word_clean(user: u32, bytes: &[u8]) -> bool
     requires { 24 ≤ length bytes.now }
@@ -38,7 +38,8 @@ pub(crate) fn is_user_clean(user: u32, message_type: u32, bytes: &[u8]) -> bool
     }
 }
 
-/// Whether the fields of a message between ports are allowed: the unused bits are zero, and the error code is at most 5.
+/// Whether the fields of a message between ports are allowed: the unused bits are zero, and the error code is at most
+/// 5.
 #[tactic(auto, unfolding(crate::specs::Faults::payload_is_clean))]
 fn is_payload_clean(bytes: &[u8]) -> bool
     requires { 24 ≤ length bytes.now }

@@ -14,7 +14,8 @@ use tipc_types::{Message, NoMemory};
 /// The most messages that an inbox holds. (This project's profile.)
 const MOST_HELD: usize = 128;
 
-/// A queue of at most 128 messages. Threads share it by reference: one gives, by its `Giver`, and one takes, by its `Taker`.
+/// A queue of at most 128 messages. Threads share it by reference: one gives, by its `Giver`, and one takes, by its
+/// `Taker`.
 ///
 /// Contracts see which queue it is.
 #[derive(Drop)]
@@ -36,8 +37,8 @@ impl Model for Inbox {
 
 /// The end of an inbox that gives. There is one for each inbox.
 ///
-/// Contracts see the queue that it is of, the messages that it offered and that weren't given back, in order, and how many
-/// were taken as far as it heard.
+/// Contracts see the queue that it is of, the messages that it offered and that weren't given back, in order, and how
+/// many were taken as far as it heard.
 #[derive(Drop)]
 pub struct Giver {
     pass: Pass<Message, Log>,
@@ -59,7 +60,8 @@ impl Model for Giver {
 
 /// The end of an inbox that takes. There is one for each inbox.
 ///
-/// Contracts see the queue that it is of, the messages that it took, in order, and how many were offered as far as it heard.
+/// Contracts see the queue that it is of, the messages that it took, in order, and how many were offered as far as it
+/// heard.
 #[derive(Drop)]
 pub struct Taker {
     pass: Pass<Message, Log>,
@@ -93,13 +95,12 @@ impl Inbox {
         Ok((Inbox { queue }, Giver { pass }, Taker { pass: other }))
     }
 
-    /// Offers a message: it comes behind those that were offered before. It takes no memory. It may wait for the thread that
-    /// takes, while that is in the middle of a call.
+    /// Offers a message: it comes behind those that were offered before. It takes no memory. It may wait for the thread
+    /// that takes, while that is in the middle of a call.
     ///
     /// # Errors
     ///
-    /// The message comes back only where 128 were held at some moment of the call. So the giver offered at least 128 more than
-    /// it heard that were taken.
+    /// The message comes back only where the giver offered at least 128 more than it heard that were taken.
     pub fn offer<R: Wait>(&self, rt: &R, giver: &mut Giver, message: Message) -> Result<(), Message>
         requires { giver.old.of_inbox ≡ self.now }
         ensures { MatchResult result (λ _. giver.new ≡ gave giver.old message) (λ back. (back ≡ message)
@@ -108,11 +109,10 @@ impl Inbox {
         self.queue.push_as::<Offer, R>(rt, &mut giver.pass, message)
     }
 
-    /// Takes the first message that is held. It takes no memory. It may wait for the thread that gives, while that is in the
-    /// middle of a call.
+    /// Takes the first message that is held. It takes no memory. It may wait for the thread that gives, while that is
+    /// in the middle of a call.
     ///
-    /// None comes only where none was held at some moment of the call. So the taker took at least as many as it heard that were
-    /// offered.
+    /// None comes only where the taker took at least as many as it heard that were offered.
     pub fn take<R: Wait>(&self, rt: &R, taker: &mut Taker) -> Option<Message>
         requires { taker.old.of_inbox ≡ self.now }
         ensures { MatchOption result ((taker.new ≡ taker.old) × (taker.old.offers ≤ length taker.old.taken))
@@ -121,8 +121,8 @@ impl Inbox {
         self.queue.pop_as::<Take, R>(rt, &mut taker.pass)
     }
 
-    /// Compares the two ends: what was taken is a front of what was offered, and at most 128 messages are held. Each end
-    /// hears how much the other did.
+    /// Compares the two ends: what was taken is a front of what was offered, and at most 128 messages are held. Each
+    /// end hears how much the other did.
     pub fn compare(&self, giver: &mut Giver, taker: &mut Taker)
         requires giver { giver.old.of_inbox ≡ self.now }
         requires taker { taker.old.of_inbox ≡ self.now }

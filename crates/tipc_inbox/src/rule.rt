@@ -4,8 +4,8 @@ use crossbeam_queue::protocol::{Join, Lesson, Outcome, Protocol, Split};
 use std::collections::LinkedList;
 use tipc_types::Message;
 
-/// What an end of an inbox knows: whether it may give, whether it may take, what it offered that wasn't given back, what
-/// it took, and how much of either it heard of the other end. No value of it is made.
+/// What an end of an inbox knows: whether it may give, whether it may take, what it offered that wasn't given back,
+/// what it took, and how much of either it heard of the other end. No value of it is made.
 pub struct Log {
     pub gives: bool,
     pub takes: bool,

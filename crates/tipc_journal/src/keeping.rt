@@ -20,8 +20,8 @@ pub const SHORT_STEP: u64 = 3;
 /// What a node did in one boot: entries in order, which are never changed or removed.
 /// (This project's profile.)
 ///
-/// Contracts see the entries, `spare`: how many appends will find their memory, and `kept`: for how many short steps, of
-/// three entries at most, memory is kept apart, which no other append takes.
+/// Contracts see the entries, `spare`: how many appends will find their memory, and `kept`: for how many short steps,
+/// of three entries at most, memory is kept apart, which no other append takes.
 #[derive(Drop)]
 pub struct Journal {
     stored: Vec<Entry>,
@@ -242,8 +242,8 @@ fn counted_bytes(message: &Message) -> u64
     }
 }
 
-/// The message bytes of an entry: those of the message that was accepted or delivered, else 0. Where there are more than a
-/// u64 holds, its last value.
+/// The message bytes of an entry: those of the message that was accepted or delivered, else 0. Where there are more
+/// than a u64 holds, its last value.
 pub fn entry_bytes(entry: &Entry) -> u64
     ensures { result ≡ min (entry_bytes entry.now) (2 ^ 64 - 1) }
 {

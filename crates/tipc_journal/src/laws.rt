@@ -192,8 +192,8 @@ pub fn fates_follow()
         HasFates own (record { before = J; step = s }) → AllHaveFates own (J ++ step_entries s) }
 {}
 
-/// In a step in which each message has its fate, what is due behind some of its entries stands next: so each payload message that was
-/// delivered is followed by its fate. And no fate stands but where a message has it.
+/// In a step in which each message has its fate, what is due behind some of its entries stands next: so each payload
+/// message that was delivered is followed by its fate. And no fate stands but where a message has it.
 pub fn what_is_due_stands_next()
     ensures next { (own : Addr) (p : PlacedStep) (front rest : List Entry) → HasFates own p →
         p.step.inside ≡ front ++ rest → (due_in own p front ≡ NothingDue → ⊥) →

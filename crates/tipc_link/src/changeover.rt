@@ -39,8 +39,8 @@ impl Link {
     ghost use Rattle.tipc_types.specs.Limits.{window_size};
     ghost use Rattle.tipc_link.specs.Links.{handed_over, name_of, named_end, record_of, release_frames, tunnelled_down, tunnelled_end, tunnels_of, unacked_of, waiting_of, with_fsm, without_waiting};
 
-    /// Gives the packets of a link that went down, unacknowledged and waiting, and the session in which they were numbered. The end
-    /// keeps them until this call. (This project's profile.)
+    /// Gives the packets of a link that went down, unacknowledged and waiting, and the session in which they were
+    /// numbered. The end keeps them until this call. (This project's profile.)
     pub fn hand_over(&mut self) -> HandedOver
         requires down { is_up self.old.fsm.state ≡ false }
         requires session { is_some self.old.session ≡ true }
@@ -73,8 +73,8 @@ impl Link {
         }
     }
 
-    /// The unacknowledged packets in order, beside their numbers: of the present session, or the last one. Each may be put into a tunnel
-    /// packet, or is one. None where there was no session. (This project's profile.)
+    /// The unacknowledged packets in order, beside their numbers: of the present session, or the last one. Each may be
+    /// put into a tunnel packet, or is one. None where there was no session. (This project's profile.)
     pub fn unacked(&self) -> &[Kept]
         ensures kept { result.now ≡ unacked_of self.now.session }
         ensures few { length result.now ≤ window_size }
@@ -86,8 +86,8 @@ impl Link {
         }
     }
 
-    /// The session in which those packets have their numbers, by its bearer and the end's own epoch. None exactly where there was no
-    /// session.
+    /// The session in which those packets have their numbers, by its bearer and the end's own epoch. None exactly where
+    /// there was no session.
     pub fn session(&self) -> Option<OldSession>
         ensures value { result ≡ option_map name_of self.now.session }
         ensures bearer { IfSome result (λ (o : OldSession). o.bearer ≤ 1) }
@@ -108,8 +108,8 @@ impl Link {
         }
     }
 
-    /// An original tunnel packet on the other link names this epoch of the peer: a link that is up under it goes down by the cause
-    /// PeerTunnel, and is Held, since the other link is up. (This project's profile.)
+    /// An original tunnel packet on the other link names this epoch of the peer: a link that is up under it goes down
+    /// by the cause PeerTunnel, and is Held, since the other link is up. (This project's profile.)
     pub fn peer_tunnel(&mut self, epoch: u64) -> Change
         ensures change { result ≡ (on_peer_tunnel self.old.fsm epoch).change }
         ensures after { self.new ≡ tunnelled_down self.old epoch }
@@ -117,7 +117,8 @@ impl Link {
         self.fsm.on_peer_tunnel(epoch)
     }
 
-    /// The other link has no tunnel packet any more: an end that is Held is released, and sends RESET. (This project's profile.)
+    /// The other link has no tunnel packet any more: an end that is Held is released, and sends RESET. (This project's
+    /// profile.)
     #[tactic(auto, using(tipc_outside::proofs::Adding::gains_none))]
     pub fn release(&mut self, alloc: Global, out: &mut Outbox) -> Change
         ensures change { result ≡ (release self.old.fsm).change }
@@ -131,8 +132,8 @@ impl Link {
         change
     }
 
-    /// A tunnel packet on the other link names this epoch of the peer: where that is above the receiving record's, and where there is
-    /// no record, a new one is made, of which the first packet is wanted. (This project's profile.)
+    /// A tunnel packet on the other link names this epoch of the peer: where that is above the receiving record's, and
+    /// where there is no record, a new one is made, of which the first packet is wanted. (This project's profile.)
     pub fn name_epoch(&mut self, alloc: Global, epoch: u64)
         ensures { self.new ≡ named_end self.old epoch }
     {
@@ -142,11 +143,12 @@ impl Link {
         }
     }
 
-    /// Takes a packet with a number that came in a tunnel packet on the other link, which names this epoch of the peer; None stands
-    /// for a placeholder, which has no bytes. `by` is the arrival's number at this node.
+    /// Takes a packet with a number that came in a tunnel packet on the other link, which names this epoch of the peer;
+    /// None stands for a placeholder, which has no bytes. `by` is the arrival's number at this node.
     ///
-    /// The epoch is named first, as by [`Link::name_epoch`]. A packet of the record's epoch is taken where it is the wanted one, and
-    /// with it those behind it that are held. Any other is ignored with `Old`: none is deferred. (This project's profile.)
+    /// The epoch is named first, as by [`Link::name_epoch`]. A packet of the record's epoch is taken where it is the
+    /// wanted one, and with it those behind it that are held. Any other is ignored with `Old`: none is deferred. (This
+    /// project's profile.)
     ///
     /// # Errors
     ///

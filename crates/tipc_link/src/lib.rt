@@ -1,5 +1,5 @@
-//! One link end: it sends packets in order under sequence numbers, again where they are missing, and takes the peer's packets in
-//! order, each once.
+//! One link end: it sends packets in order under sequence numbers, again where they are missing, and takes the peer's
+//! packets in order, each once.
 #![tactic(auto)]
 
 mod arriving;

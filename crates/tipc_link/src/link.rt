@@ -37,8 +37,8 @@ pub struct LinkArrival {
 
 /// One end of a link to a peer on one bearer, through its resets and sessions.
 ///
-/// RESET and ACTIVATE show the contact numbers of [`Link::show_contact`]. Nothing is sent on a cut bearer. (States: TIPC
-/// 2.0 draft; epochs and contact numbers: this project's profile.)
+/// RESET and ACTIVATE show the contact numbers of [`Link::show_contact`]. Nothing is sent on a cut bearer. (States:
+/// TIPC 2.0 draft; epochs and contact numbers: this project's profile.)
 #[derive(Drop)]
 pub struct Link {
     own: Addr,
@@ -267,7 +267,8 @@ impl Link {
         }
     }
 
-    /// The bearer is cut: a link that is up goes down. `held` says that the pair's other link is up, so that the end is Held.
+    /// The bearer is cut: a link that is up goes down. `held` says that the pair's other link is up, so that the end is
+    /// Held.
     pub fn cut(&mut self, held: bool) -> Change
         ensures change { result ≡ (on_cut self.old.fsm held).change }
         ensures after { self.new ≡ cut_end self.old held }
@@ -297,8 +298,8 @@ impl Link {
     ///
     /// # Errors
     ///
-    /// Congested exactly where at least `limit` packets wait, with the counts of the packets unacknowledged and waiting; else
-    /// NoMemory. Either changes nothing.
+    /// Congested exactly where at least `limit` packets wait, with the counts of the packets unacknowledged and
+    /// waiting; else NoMemory. Either changes nothing.
     pub fn send(
         &mut self,
         alloc: Global,
@@ -349,11 +350,12 @@ impl Link {
         }
     }
 
-    /// What a packet that arrived under an envelope of these two epochs makes of the link: the sender's own, and this end's as the
-    /// sender knows it. `held` says that the pair's other link is up, and `by` is the arrival's number at this node.
+    /// What a packet that arrived under an envelope of these two epochs makes of the link: the sender's own, and this
+    /// end's as the sender knows it. `held` says that the pair's other link is up, and `by` is the arrival's number at
+    /// this node.
     ///
-    /// It tells what becomes of the link's state, and what the session takes of a STATE or a packet with a number. Nothing is
-    /// changed yet: [`Link::commit`] does it.
+    /// It tells what becomes of the link's state, and what the session takes of a STATE or a packet with a number.
+    /// Nothing is changed yet: [`Link::commit`] does it.
     ///
     /// # Errors
     ///
@@ -503,11 +505,12 @@ impl Link {
         }
     }
 
-    /// Sends the STATE that is due where the last arrival asks for one, or once 16 packets or 16 broadcast packets were taken since the
-    /// last frame on this link. Nothing is sent where the link isn't up.
+    /// Sends the STATE that is due where the last arrival asks for one, or once 16 packets or 16 broadcast packets were
+    /// taken since the last frame on this link. Nothing is sent where the link isn't up.
     ///
-    /// The arrival took so many broadcast packets. `due` says that it asks for a STATE by the broadcast: it deferred the only deferred
-    /// broadcast packet, or showed that the peer has broadcast more. `shown` fills the broadcast fields. (This project's profile.)
+    /// The arrival took so many broadcast packets. `due` says that it asks for a STATE by the broadcast: it deferred
+    /// the only deferred broadcast packet, or showed that the peer has broadcast more. `shown` fills the broadcast
+    /// fields. (This project's profile.)
     #[tactic(auto, using(tipc_outside::proofs::Adding::gains_none))]
     pub fn answer(
         &mut self,
@@ -529,8 +532,8 @@ impl Link {
         }
     }
 
-    /// How many packets each direction numbered in the present session, or the last one: the own ones exactly, and the peer's as
-    /// taken. None exactly where there was no session.
+    /// How many packets each direction numbered in the present session, or the last one: the own ones exactly, and the
+    /// peer's as taken. None exactly where there was no session.
     pub fn numbered(&self) -> Option<(u64, u64)>
         ensures { result ≡ numbers_of self.now.session }
     {
@@ -540,8 +543,8 @@ impl Link {
         }
     }
 
-    /// The numbers of unacknowledged and of waiting packets of the present session, or the last one. None exactly where there was
-    /// no session.
+    /// The numbers of unacknowledged and of waiting packets of the present session, or the last one. None exactly where
+    /// there was no session.
     pub fn load(&self) -> Option<(u32, u32)>
         ensures { result ≡ session_load self.now.session }
     {
@@ -551,8 +554,8 @@ impl Link {
         }
     }
 
-    /// The own epoch of the present session, or of the last one, and how many packets were numbered in it. None exactly where there
-    /// was no session.
+    /// The own epoch of the present session, or of the last one, and how many packets were numbered in it. None exactly
+    /// where there was no session.
     pub fn last_count(&self) -> Option<(u64, u64)>
         ensures { result ≡ count_of self.now.session }
     {
@@ -590,8 +593,8 @@ impl Link {
         self.fsm.state().is_up()
     }
 
-    /// The peer showed a higher contact number while there was no contact: the end forgets the peer's epoch. An end that is up has
-    /// a contact, which ends.
+    /// The peer showed a higher contact number while there was no contact: the end forgets the peer's epoch. An end
+    /// that is up has a contact, which ends.
     #[tactic(auto, using(tipc_outside::proofs::Adding::gains_none))]
     pub fn forget_peer(&mut self, alloc: Global, out: &mut Outbox) -> Change
         ensures change { result ≡ (forget_peer self.old.fsm).change }

@@ -107,12 +107,12 @@ impl Record {
         self.shown = self.shown.max(position);
     }
 
-    /// What a packet that arrived makes of it. `by` is the arrival's number at this node. A packet that carries nothing for a link
-    /// end that is up is ignored with `Epoch`.
+    /// What a packet that arrived makes of it. `by` is the arrival's number at this node. A packet that carries nothing
+    /// for a link end that is up is ignored with `Epoch`.
     ///
-    /// A packet with a number is taken where it is the wanted one, and with it those behind it that are held; it is deferred where
-    /// it is one of the next 49, isn't held and is no tunnel packet; else it is ignored with `Old`. A packet that is taken is given
-    /// as it waited to be sent. (TIPC 2.0 draft; this project's profile.)
+    /// A packet with a number is taken where it is the wanted one, and with it those behind it that are held; it is
+    /// deferred where it is one of the next 49, isn't held and is no tunnel packet; else it is ignored with `Old`. A
+    /// packet that is taken is given as it waited to be sent. (TIPC 2.0 draft; this project's profile.)
     ///
     /// # Errors
     ///
@@ -199,8 +199,8 @@ impl Record {
         self.window.commit(arrival);
     }
 
-    /// Takes a packet of this epoch of the peer that came in a tunnel packet on the other link: the wanted one, with those behind it
-    /// that are held. Any other is ignored with `Old`. (This project's profile.)
+    /// Takes a packet of this epoch of the peer that came in a tunnel packet on the other link: the wanted one, with
+    /// those behind it that are held. Any other is ignored with `Old`. (This project's profile.)
     ///
     /// # Errors
     ///

@@ -182,9 +182,10 @@ impl Session {
         (self.window.unacked().len() as u32, self.window.waiting())
     }
 
-    /// Puts packets on the link, and sends those that the window of 50 has room for. A packet that is alone, and is payload or name
-    /// items, joins the last packet that waits, where that is a bundle or such a packet and the bundle has at most 1,452 bytes.
-    /// Words 2 and 3 of a packet are written when it is sent; a message names its node in word 3 from the start, also in a bundle. (TIPC 2.0 draft; the limits: this project's profile.)
+    /// Puts packets on the link, and sends those that the window of 50 has room for. A packet that is alone, and is
+    /// payload or name items, joins the last packet that waits, where that is a bundle or such a packet and the bundle
+    /// has at most 1,452 bytes. Words 2 and 3 of a packet are written when it is sent; a message names its node in word
+    /// 3 from the start, also in a bundle. (TIPC 2.0 draft; the limits: this project's profile.)
     ///
     /// # Errors
     ///
@@ -322,7 +323,8 @@ impl Session {
         self.received.window()
     }
 
-    /// Keeps the highest next position that the peer has shown, and asks for a STATE where more is missing, or at a probe.
+    /// Keeps the highest next position that the peer has shown, and asks for a STATE where more is missing, or at a
+    /// probe.
     #[tactic(auto, unfolding(crate::specs::Sessions::highest))]
     pub(crate) fn note(&mut self, next: u16, probe: bool)
         ensures { self.new ≡ noted self.old next probe }
@@ -349,7 +351,8 @@ impl Session {
         self.window.unacked()
     }
 
-    /// Sends the unacknowledged packets again that are among the `gap` ones behind an acknowledgement. (TIPC 2.0 draft.)
+    /// Sends the unacknowledged packets again that are among the `gap` ones behind an acknowledgement. (TIPC 2.0
+    /// draft.)
     pub(crate) fn repeat(&mut self, alloc: Global, acknowledgement: u16, gap: u16, out: &mut Outbox)
         ensures after { self.new ≡ spoke self.old (repeated self.old acknowledgement gap) }
         ensures frames { AddsFirst out.old out.new (repeat_frames self.old acknowledgement gap) }
@@ -388,7 +391,8 @@ impl Session {
         self.received.prepare(alloc, packet, by)
     }
 
-    /// Does what a packet with a number makes of the receive window: nothing, where it is a tunnel packet that isn't the wanted one.
+    /// Does what a packet with a number makes of the receive window: nothing, where it is a tunnel packet that isn't
+    /// the wanted one.
     #[tactic(auto, using(crate::proofs::Standing::coming_none, crate::proofs::Standing::coming_some))]
     pub(crate) fn take_or_pass(&mut self, window: Option<WindowArrival>)
         requires { (t : Taken) × (window ≡ coming_of (receiving self.old) t) }
@@ -400,7 +404,8 @@ impl Session {
         }
     }
 
-    /// Lets the receive window do what a packet with a number makes of it. The only packet that is deferred asks for a STATE.
+    /// Lets the receive window do what a packet with a number makes of it. The only packet that is deferred asks for a
+    /// STATE.
     fn take(&mut self, arrival: WindowArrival)
         requires { (t : Taken) × (is_early_tunnel (receiving self.old) t ≡ false) ×
             (arrival ≡ coming (receiving self.old) t) }
@@ -422,8 +427,8 @@ impl Session {
         self.owes = is_only_deferred(Place::Old, self.receive_window());
     }
 
-    /// A tunnel packet on the other link names this epoch of the peer: a new receiving record is made where that is above the
-    /// record's, and nothing of it is unanswered.
+    /// A tunnel packet on the other link names this epoch of the peer: a new receiving record is made where that is
+    /// above the record's, and nothing of it is unanswered.
     #[tactic(auto, using(crate::proofs::Takings::named_above, crate::proofs::Takings::named_below, crate::proofs::Takings::with_itself))]
     pub fn name_epoch(&mut self, alloc: Global, epoch: u64)
         ensures { self.new ≡ with_record self.old (named (Some (receiving_record self.old)) epoch) }
@@ -434,7 +439,8 @@ impl Session {
         self.renew(Record::new(alloc, epoch));
     }
 
-    /// Takes a packet that came in such a tunnel packet: as [`Record::receive`], on the record that the tunnel packet names.
+    /// Takes a packet that came in such a tunnel packet: as [`Record::receive`], on the record that the tunnel packet
+    /// names.
     ///
     /// # Errors
     ///
@@ -533,7 +539,8 @@ impl Session {
         (unacked + waiting).min(u32::MAX as usize) as u32
     }
 
-    /// Whether a STATE is due, where the arrival took so many broadcast packets, and `asks` says whether it asks for one by them.
+    /// Whether a STATE is due, where the arrival took so many broadcast packets, and `asks` says whether it asks for
+    /// one by them.
     fn is_due(&self, broadcasts: u32, asks: bool) -> bool
         ensures { result ≡ is_due (with_broadcast self.now broadcasts asks) }
     {
@@ -542,9 +549,10 @@ impl Session {
             || self.broadcasts + u64::from(broadcasts) >= UNANSWERED
     }
 
-    /// Sends the STATE that is due where the last arrival asks for one, or once 16 packets or 16 broadcast packets were taken since the
-    /// last frame on this link. The arrival took so many broadcast packets, and `asks` says whether it asks for a STATE by what it shows
-    /// or brings of the broadcast. `shown` fills the broadcast fields of the STATE. (This project's profile.)
+    /// Sends the STATE that is due where the last arrival asks for one, or once 16 packets or 16 broadcast packets were
+    /// taken since the last frame on this link. The arrival took so many broadcast packets, and `asks` says whether it
+    /// asks for a STATE by what it shows or brings of the broadcast. `shown` fills the broadcast fields of the STATE.
+    /// (This project's profile.)
     pub fn answer(
         &mut self,
         alloc: Global,

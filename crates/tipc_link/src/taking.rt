@@ -23,8 +23,8 @@ impl Session {
     ghost use Rattle.tipc_link.specs.Sessions.{again_frames, arrival_frames, arrived, heard, moved_at, moved_frames, outcome, receiving, after_acknowledgement, took, Content};
     ghost use Rattle.tipc_link.specs.Hearings.{coming_of};
 
-    /// Takes a packet that arrived in this session, as it was prepared: the acknowledgement is read first, and packets that the
-    /// peer misses are sent again; then what moves up is sent.
+    /// Takes a packet that arrived in this session, as it was prepared: the acknowledgement is read first, and packets
+    /// that the peer misses are sent again; then what moves up is sent.
     pub fn hear(
         &mut self,
         alloc: Global,
@@ -114,12 +114,13 @@ impl Session {
 impl Link {
     ghost use Rattle.tipc_link.specs.Links.{arrival_end, heard_by, heard_end, link_frames, link_outcome};
 
-    /// Takes a packet that arrived, as [`Link::prepare`] told of it when the link was as it is. `shown` fills the broadcast fields
-    /// of a STATE that is sent.
+    /// Takes a packet that arrived, as [`Link::prepare`] told of it when the link was as it is. `shown` fills the
+    /// broadcast fields of a STATE that is sent.
     ///
-    /// What becomes of the link's state is told again, and what the session took. After Down(PeerReset) without another link that
-    /// is up the contact ends, and then the same RESET is to be given again. Frames of link states and packets that are sent again
-    /// leave first, and behind them the packets that are numbered then. (This project's profile.)
+    /// What becomes of the link's state is told again, and what the session took. After Down(PeerReset) without another
+    /// link that is up the contact ends, and then the same RESET is to be given again. Frames of link states and
+    /// packets that are sent again leave first, and behind them the packets that are numbered then. (This project's
+    /// profile.)
     pub fn commit(
         &mut self,
         alloc: Global,
@@ -146,11 +147,13 @@ impl Link {
         LinkArrival { change, outcome }
     }
 
-    /// Takes a packet that arrived under an envelope of these two epochs: [`Link::prepare`] and [`Link::commit`] in one call.
+    /// Takes a packet that arrived under an envelope of these two epochs: [`Link::prepare`] and [`Link::commit`] in one
+    /// call.
     ///
     /// # Errors
     ///
-    /// Where memory runs out for a packet with a number that the session hears. Nothing is changed then, and nothing is sent.
+    /// Where memory runs out for a packet with a number that the session hears. Nothing is changed then, and nothing is
+    /// sent.
     pub fn arrive(
         &mut self,
         alloc: Global,

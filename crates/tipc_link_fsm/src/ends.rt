@@ -16,8 +16,8 @@ const MOST_SILENT_TICKS: u8 = 4;
 /// its state and its silent count. (States: TIPC 2.0 draft; epochs, Held and the silent count: this project's
 /// profile.)
 ///
-/// An epoch has the boot number in its upper 32 bits and a count in its lower ones. An arriving frame has two: its sender's own
-/// (`sender_epoch`), and the receiver's as the sender knows it (`receiver_epoch`).
+/// An epoch has the boot number in its upper 32 bits and a count in its lower ones. An arriving frame has two: its
+/// sender's own (`sender_epoch`), and the receiver's as the sender knows it (`receiver_epoch`).
 #[derive(Drop)]
 pub struct LinkFsm {
     own: u64,

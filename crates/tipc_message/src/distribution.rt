@@ -3,14 +3,13 @@
 ghost use Rattle.std.specs.Prelude.{◌≡◌, ◌+◌, ◌*◌, ◌≤◌, ◌++◌, Some, length, IfOk, OnOk};
 ghost use Rattle.tipc_types.specs.declared.message_forms.Message.TheVariants as message;
 ghost use Rattle.tipc_header.specs.Grammar.{Fits};
-ghost use Rattle.tipc_header.specs.Reading.{word_at};
 ghost use Rattle.tipc_header.specs.Spelling.{spelling, word};
 ghost use Rattle.tipc_message.specs.ItemWords.{item_at, item_bytes, items_bytes, items_of, AreInWords, IsInWords};
 ghost use Rattle.tipc_message.specs.Wire.{distribution_of, is_withdrawal, items_packet, message_of};
 
 use crate::encoding::encoded;
 use std::alloc::Global;
-use tipc_header::{DistributionType, Header, NameDistribution};
+use tipc_header::{DistributionType, Header, NameDistribution, word};
 use tipc_types::{Addr, Bytes, Item, ItemList, Message, NoMemory};
 
 /// How many bytes an item has in a packet: five words.
@@ -87,16 +86,6 @@ pub(crate) fn distribution_bytes(
     };
     let rest = items_bytes(alloc, items)?;
     encoded(alloc, own, Header::NameDistributor(header), rest.as_slice())
-}
-
-/// The word of this index.
-#[tactic(auto, unfolding(tipc_header::specs::Reading::word_at))]
-fn word(bytes: &[u8], index: usize) -> u32
-    requires { 4 * index + 4 ≤ length bytes.now }
-    ensures { result ≡ word_at index bytes.now }
-{
-    let at = 4 * index;
-    u32::from_be_bytes([bytes[at], bytes[at + 1], bytes[at + 2], bytes[at + 3]])
 }
 
 /// The item of this index.

@@ -160,8 +160,8 @@ fn port_at(node: u32, port: u32) -> PortId
     }
 }
 
-/// What a packet's addressing says: the form, the nodes that the message goes from and to, the name type, and the first and the last
-/// instance; 0 stands for what it doesn't name.
+/// What a packet's addressing says: the form, the nodes that the message goes from and to, the name type, and the first
+/// and the last instance; 0 stands for what it doesn't name.
 fn addressed(addressing: &Addressing) -> (Form, u32, u32, u32, u32, u32)
     ensures { (p : Payload) → (body : List ℕ) → message_by p addressing.now body ≡
         message_between p result.0 result.1 result.2 result.3 result.4 result.5 body }

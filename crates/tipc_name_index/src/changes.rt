@@ -27,7 +27,8 @@ fn count_of(held: &[Publication], node: Addr) -> usize
     those_of(held, node).len()
 }
 
-/// Whether a publication of a node and key may be added. Those of the node are counted only where so many are held in all.
+/// Whether a publication of a node and key may be added. Those of the node are counted only where so many are held in
+/// all.
 ///
 /// # Errors
 ///

@@ -10,10 +10,10 @@ use std::marker::Model;
 use tipc_name_table::{NameFault, Names, Unknown, covering, remove_node, sharing};
 use tipc_types::{Addr, List, NoMemory, Publication, ServiceRange};
 
-/// A name table that holds its publications three times: in order of node, port and key; in order of service type, lower bound,
-/// upper bound, node, port and key; and in order of node and key. Places are found by halves. A publication and a withdrawal cost
-/// no pass, but what stands behind is moved on; a look-up costs one over those of its service type that begin no later than at
-/// its last instance.
+/// A name table that holds its publications three times: in order of node, port and key; in order of service type,
+/// lower bound, upper bound, node, port and key; and in order of node and key. Places are found by halves. A
+/// publication and a withdrawal cost no pass, but what stands behind is moved on; a look-up costs one over those of its
+/// service type that begin no later than at its last instance.
 #[derive(Drop)]
 pub struct NameIndex {
     held: Vec<Publication>,

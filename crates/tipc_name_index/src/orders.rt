@@ -1,4 +1,5 @@
-//! The three orders in which publications are kept. What comes later in an order is looked at only where all before it ties.
+//! The three orders in which publications are kept. What comes later in an order is looked at only where all before it
+//! ties.
 
 ghost use Rattle.std.specs.Prelude.{◌≡◌, IsPermutation, IsSortedBy};
 ghost use Rattle.tipc_types.specs.Tables.{is_named, place_cmp, stands_before};

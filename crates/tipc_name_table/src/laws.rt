@@ -1,5 +1,5 @@
-//! Laws of look-ups in a name table, for callers: each is the contract of a function that does nothing. A look-up is the list
-//! of the publications that pass a test, as covering an instance or overlapping a range.
+//! Laws of look-ups in a name table, for callers: each is the contract of a function that does nothing. A look-up is
+//! the list of the publications that pass a test, as covering an instance or overlapping a range.
 
 ghost use Rattle.std.specs.Prelude.{◌≡◌, ◌⊎◌, ℕ, Bool, List, [], true, Contains, filter, if◌then◌else◌};
 ghost use Rattle.tipc_types.specs.declared.services.Publication.{Publication};
@@ -32,8 +32,8 @@ pub fn look_ups_are_in_order()
     ensures closest { (own : ℕ) → (ps : List Publication) → IsInOrder ps → IsInOrder (closest own ps) }
 {}
 
-/// Something is closest where anything is found, and all that is closest was found. Where something of the own node was found,
-/// all that is closest is of it.
+/// Something is closest where anything is found, and all that is closest was found. Where something of the own node was
+/// found, all that is closest is of it.
 pub fn the_closest_are_some()
     ensures some { (own : ℕ) → (ps : List Publication) → closest own ps ≡ [] → ps ≡ [] }
     ensures found { (own : ℕ) → (p : Publication) → (ps : List Publication) → Contains (closest own ps) p →

@@ -28,8 +28,8 @@ pub enum NameFault {
 #[derive(Clone, Copy, Debug, PartialEq, Eq)]
 pub struct Unknown;
 
-/// A name table: publications, of which node and key name one. Ranges may overlap, also those of one node. (Programmer's guide,
-/// service ranges; the order, the keys and the limit are this project's profile.)
+/// A name table: publications, of which node and key name one. Ranges may overlap, also those of one node.
+/// (Programmer's guide, service ranges; the order, the keys and the limit are this project's profile.)
 pub trait Names {
     /// The publications that are held, in order of node, port and key.
     ghost table: { Self → List Publication };
@@ -38,8 +38,8 @@ pub trait Names {
     ///
     /// # Errors
     ///
-    /// `Duplicate` exactly where one of that node and key is held; else `Full` exactly where 1,024 of that node are held; else
-    /// `NoMemory` where memory runs out. An error changes nothing.
+    /// `Duplicate` exactly where one of that node and key is held; else `Full` exactly where 1,024 of that node are
+    /// held; else `NoMemory` where memory runs out. An error changes nothing.
     fn publish(&mut self, p: Publication) -> Result<(), NameFault>
         requires { IsNodeWord p.at.node.word }
         ensures ok { OnOk result (table self.new ≡ put p (table self.old)) }
@@ -63,8 +63,8 @@ pub trait Names {
         ensures err { OnErr result (table self.new ≡ table self.old) }
         ensures sound { IsTable (table self.new) };
 
-    /// All publications of a service type that cover an instance, those of every node, in order of node, port and key: 1,024 at
-    /// most of each of the 32 nodes.
+    /// All publications of a service type that cover an instance, those of every node, in order of node, port and key:
+    /// 1,024 at most of each of the 32 nodes.
     fn matches(&self, alloc: Global, kind: u32, instance: u32) -> Result<List, NoMemory>
         ensures matches { IfOk result (λ ps. ps ≡ filter (covers kind instance) (table self.now)) }
         ensures few { IfOk result (λ ps. length ps ≤ 32768) }

@@ -75,8 +75,8 @@ impl Core {
         }
     }
 
-    /// The packet of a frame that arrives on a bearer: a link packet is due at the link of the node that it names as its
-    /// sender, and a discovery packet is of the network. Or the first reason that stops it.
+    /// The packet of a frame that arrives on a bearer: a link packet is due at the link of the node that it names as
+    /// its sender, and a discovery packet is of the network. Or the first reason that stops it.
     fn due<'a>(&self, bearer: u8, frame: &'a [u8]) -> Result<Due<'a>, Why>
         ensures due { IfOk result (λ d. d.kind ≡ Links →
             IsDue self.now frame.now d.bearer d.peer d.first d.second (view d.packet)) }
@@ -155,8 +155,8 @@ impl Core {
         Ok(arrived)
     }
 
-    /// Whether nothing becomes of the links and the contact by an arrival that will make this, and nothing goes back: each
-    /// message surely waits at its port.
+    /// Whether nothing becomes of the links and the contact by an arrival that will make this, and nothing goes back:
+    /// each message surely waits at its port.
     fn is_sure(&self, heard: &Hearing) -> bool
         requires { length heard.now.deliveries.items ≤ free_entries - 4 }
         ensures { result ≡ true → (told_changes heard.now ≡ []) ×
@@ -196,8 +196,8 @@ impl Core {
         }
     }
 
-    /// A packet arrives by which nothing becomes of the links and the contact, and each message that is given surely waits
-    /// at its port: as [`Core::take`]. What can fail is done first.
+    /// A packet arrives by which nothing becomes of the links and the contact, and each message that is given surely
+    /// waits at its port: as [`Core::take`]. What can fail is done first.
     fn take_all(
         &mut self,
         alloc: Global,
@@ -245,8 +245,8 @@ impl Core {
         Ok(heard.answer)
     }
 
-    /// A copy of the broadcast link, where an arrival that will make this changes it: the contact changes, or a STATE is
-    /// taken.
+    /// A copy of the broadcast link, where an arrival that will make this changes it: the contact changes, or a STATE
+    /// is taken.
     fn broadcast_before(
         &self,
         alloc: Global,

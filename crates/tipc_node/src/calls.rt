@@ -141,8 +141,8 @@ impl Draft {
         };
     }
 
-    /// Changes the own names, where nothing speaks against it. There is an error only where memory runs out, and nothing
-    /// is changed then.
+    /// Changes the own names, where nothing speaks against it. There is an error only where memory runs out, and
+    /// nothing is changed then.
     fn change_names(&mut self, change: NameChange) -> Result<(), NoMemory>
         requires { CanChangeNames self.old.work.sockets change }
         ensures ok { OnOk result (self.new ≡ with_sockets_in self.old
@@ -197,8 +197,8 @@ impl Core {
     }
 
     /// Changes the own names, and tells every peer in contact of it by these messages, 1,024 at most of one item each;
-    /// the step begins with these entries. NamesCongested exactly where there are messages and 1,000 packets wait on the
-    /// link to a peer: the lowest is named.
+    /// the step begins with these entries. NamesCongested exactly where there are messages and 1,000 packets wait on
+    /// the link to a peer: the lowest is named.
     fn announce(
         &mut self,
         alloc: Global,
@@ -329,8 +329,8 @@ impl Core {
         }
     }
 
-    /// Records a call that is refused for this reason, which is given twice, and changes nothing else. It takes no memory
-    /// that was promised.
+    /// Records a call that is refused for this reason, which is given twice, and changes nothing else. It takes no
+    /// memory that was promised.
     fn refuse_ready(
         &mut self,
         by: By,
@@ -409,8 +409,8 @@ impl Core {
         self.announce(alloc, by, note, change, inside, told.as_slice(), out)
     }
 
-    /// Takes the first message that waits at a port: NoSocket exactly where the port isn't there, Empty exactly where none
-    /// waits there.
+    /// Takes the first message that waits at a port: NoSocket exactly where the port isn't there, Empty exactly where
+    /// none waits there.
     pub(crate) fn receive(&mut self, by: By, port: u32) -> Result<Answer, NoMemory>
         requires room { has_journal_room self.old.journal ≡ true }
         ensures ok { IfOk result (CarriesOut self.old by (EventNote.Receive port)

@@ -1,5 +1,5 @@
-//! What a node's events make of its broadcast link: peers join it and leave it as contacts begin and end, and a STATE that
-//! is taken is read.
+//! What a node's events make of its broadcast link: peers join it and leave it as contacts begin and end, and a STATE
+//! that is taken is read.
 
 ghost use Rattle.std.specs.Prelude.{◌≡◌, ◌≤◌, ◌∷◌, [], true, filter, is_some, IfOk, OnErr, OnOk};
 ghost use Rattle.std.specs.List.{find, list_any};
@@ -53,8 +53,8 @@ pub fn changes_contact(changes: &[Transition]) -> bool
     changes.iter().any(|change| is_of_contact(change))
 }
 
-/// The contact with a peer, of which it is told, begins or ends: it joins the broadcast link, or leaves it. Where memory
-/// runs out nothing is changed.
+/// The contact with a peer, of which it is told, begins or ends: it joins the broadcast link, or leaves it. Where
+/// memory runs out nothing is changed.
 fn follow_change(
     broadcast: &mut Broadcast,
     alloc: Global,
@@ -131,8 +131,8 @@ pub fn stated_in(header: &Header, outcome: &PairOutcome) -> Option<BroadcastStat
     }
 }
 
-/// Takes what a peer in contact tells of broadcast, where it does. Answers whether a STATE is due, since the peer sent more
-/// than was taken of it.
+/// Takes what a peer in contact tells of broadcast, where it does. Answers whether a STATE is due, since the peer sent
+/// more than was taken of it.
 pub fn take_state(
     broadcast: &mut Broadcast,
     alloc: Global,
@@ -154,9 +154,9 @@ pub fn take_state(
     broadcast.shows_more(node, seen.next)
 }
 
-/// An arrival from a peer told this of the links and the contact, and of broadcast: the peer joins the broadcast link or
-/// leaves it, and a STATE is taken. Answers whether one is due, since the peer sent more than was taken of it. Where memory
-/// runs out nothing is changed.
+/// An arrival from a peer told this of the links and the contact, and of broadcast: the peer joins the broadcast link
+/// or leaves it, and a STATE is taken. Answers whether one is due, since the peer sent more than was taken of it. Where
+/// memory runs out nothing is changed.
 pub fn follow_arrival(
     broadcast: &mut Broadcast,
     alloc: Global,

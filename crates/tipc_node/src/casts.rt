@@ -345,8 +345,8 @@ fn commit_cast(
 }
 
 impl Draft {
-    /// The broadcast link takes a packet that arrived, as it was prepared, and the neighbour from which it comes sends the STATE that
-    /// is due on the bearer.
+    /// The broadcast link takes a packet that arrived, as it was prepared, and the neighbour from which it comes sends
+    /// the STATE that is due on the bearer.
     fn follow_cast(
         &mut self,
         alloc: Global,
@@ -376,8 +376,8 @@ impl Draft {
 }
 
 impl Core {
-    /// A broadcast packet arrives that gives one multicast at most: as [`Core::hear_cast`]. What can fail is done first, and
-    /// nothing is copied.
+    /// A broadcast packet arrives that gives one multicast at most: as [`Core::hear_cast`]. What can fail is done
+    /// first, and nothing is copied.
     fn cast_alone(
         &mut self,
         alloc: Global,
@@ -415,8 +415,8 @@ impl Core {
         Ok(heard.answer)
     }
 
-    /// A broadcast packet arrives that gives more: as [`Core::hear_cast`]. Where memory runs out, the node is made what it
-    /// was.
+    /// A broadcast packet arrives that gives more: as [`Core::hear_cast`]. Where memory runs out, the node is made what
+    /// it was.
     fn cast_each(
         &mut self,
         alloc: Global,
@@ -480,10 +480,10 @@ impl Core {
         }
     }
 
-    /// A broadcast packet of a peer arrives; `number` is its number among all that arrived at this node. It is ignored for the
-    /// first reason that the broadcast link has. What it gives is recorded as delivered, and has its fate: a multicast
-    /// waits at each own port that offers in its range to other nodes and has room. A STATE that is due on the bearer of
-    /// the arrival is sent last, where a link is up there.
+    /// A broadcast packet of a peer arrives; `number` is its number among all that arrived at this node. It is ignored
+    /// for the first reason that the broadcast link has. What it gives is recorded as delivered, and has its fate: a
+    /// multicast waits at each own port that offers in its range to other nodes and has room. A STATE that is due on
+    /// the bearer of the arrival is sent last, where a link is up there.
     ///
     /// # Errors
     ///

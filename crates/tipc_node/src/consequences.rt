@@ -72,8 +72,8 @@ impl Draft {
         self.tell_live(alloc, peer)
     }
 
-    /// The neighbour of that number sends the STATE that is due on a bearer, where it has a link end: it may be asked for by
-    /// the broadcast, and shows this of the broadcast link.
+    /// The neighbour of that number sends the STATE that is due on a bearer, where it has a link end: it may be asked
+    /// for by the broadcast, and shows this of the broadcast link.
     fn answer(
         &mut self,
         alloc: Global,
@@ -99,8 +99,8 @@ impl Draft {
     }
 
     /// What follows when the neighbour of that number heard a packet: the peer is greeted where the contact began, the
-    /// broadcast link is told of the contact and of a STATE, what the packet gave is delivered, and the STATE that is due
-    /// leaves last.
+    /// broadcast link is told of the contact and of a STATE, what the packet gave is delivered, and the STATE that is
+    /// due leaves last.
     fn follow(
         &mut self,
         alloc: Global,
@@ -129,8 +129,8 @@ impl Draft {
         self.answer(alloc, due.peer, due.bearer, asks, shown)
     }
 
-    /// The broadcast link is told what an arrival told of the contact with a peer, and of broadcast. Answers whether a STATE
-    /// is due, since the peer sent more than was taken of it.
+    /// The broadcast link is told what an arrival told of the contact with a peer, and of broadcast. Answers whether a
+    /// STATE is due, since the peer sent more than was taken of it.
     fn cast(
         &mut self,
         alloc: Global,

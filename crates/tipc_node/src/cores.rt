@@ -77,8 +77,8 @@ impl Model for Core {
         IsOfNode n.own.word n.boot n.mended n.broadcast };
 }
 
-/// Makes the broadcast link what it is after something happened to all neighbours: a copy, where a contact ended; else a
-/// bearer may have been mended or cut.
+/// Makes the broadcast link what it is after something happened to all neighbours: a copy, where a contact ended; else
+/// a bearer may have been mended or cut.
 fn take_broadcast(broadcast: &mut Broadcast, upkeep: Upkeep, after: Option<Broadcast>)
     requires { IsOnBearer upkeep }
     ensures { broadcast.new ≡ casting_in upkeep broadcast.old after }
@@ -146,8 +146,8 @@ impl Core {
         self.boot
     }
 
-    /// The numbers of packets unacknowledged and waiting, each on all its links together that are up, and on its broadcast
-    /// link.
+    /// The numbers of packets unacknowledged and waiting, each on all its links together that are up, and on its
+    /// broadcast link.
     pub fn load(&self) -> (u64, u64)
         ensures { result ≡ node_load self.now }
     {
@@ -192,8 +192,9 @@ impl Core {
         self.journal
     }
 
-    /// Its sockets hold together and have its address, its boot has a number from which contact numbers are made, there is
-    /// a place for each peer, the send window of its broadcast link is one, and its journal is within its limit. It does nothing.
+    /// Its sockets hold together and have its address, its boot has a number from which contact numbers are made, there
+    /// is a place for each peer, the send window of its broadcast link is one, and its journal is within its limit. It
+    /// does nothing.
     pub fn sound(&self)
         ensures sockets { AreSockets self.now.sockets }
         ensures own { self.now.sockets.own ≡ self.now.own }
@@ -332,8 +333,8 @@ impl Core {
         Ok(why)
     }
 
-    /// Lets something happen to all neighbours: a bearer is mended, on which it asks then who is there, or cut. The names
-    /// of each peer with which the contact ends by it are forgotten.
+    /// Lets something happen to all neighbours: a bearer is mended, on which it asks then who is there, or cut. The
+    /// names of each peer with which the contact ends by it are forgotten.
     fn take_part(
         &mut self,
         alloc: Global,

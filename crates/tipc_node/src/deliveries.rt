@@ -26,8 +26,8 @@ use tipc_outside::Outbox;
 use tipc_types::{Addr, Message, NoMemory};
 
 impl Draft {
-    /// Puts a message on the link to the peer of that number, in a step that does nothing else: the frames that leave aren't
-    /// drafted. The answer is the entry that tells that it is accepted.
+    /// Puts a message on the link to the peer of that number, in a step that does nothing else: the frames that leave
+    /// aren't drafted. The answer is the entry that tells that it is accepted.
     pub(crate) fn put_alone(
         &mut self,
         alloc: Global,

@@ -257,8 +257,8 @@ impl Core {
         self.request(alloc, bearer, event);
     }
 
-    /// Asks who is there where something happened to all neighbours, which are these then: on a bearer that is mended, and
-    /// at a tick on each bearer that is mended and on which no link is up, at an eighth one on each that is mended.
+    /// Asks who is there where something happened to all neighbours, which are these then: on a bearer that is mended,
+    /// and at a tick on each bearer that is mended and on which no link is up, at an eighth one on each that is mended.
     #[tactic(auto, unfolding(crate::specs::Discovery::requests_by), using(tipc_outside::proofs::Adding::gains_none, tipc_outside::proofs::Adding::first_more))]
     pub(crate) fn ask(
         &self,

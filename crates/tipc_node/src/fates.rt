@@ -23,8 +23,8 @@ use tipc_types::{Addr, Form, Message, NoMemory};
 /// The address word that node 0 would have: the numbers of nodes are counted from it.
 const NODE_ZERO: u32 = 0x0100_1000;
 
-/// The numbers of packets unacknowledged and waiting on the active link to the node of an address: None exactly where there is
-/// no contact with it.
+/// The numbers of packets unacknowledged and waiting on the active link to the node of an address: None exactly where
+/// there is no contact with it.
 pub fn load_to(neighbours: &[Option<Neighbour>], node: Addr) -> Option<(u32, u32)>
     ensures { result ≡ load_with (neighbour_at neighbours.now node) }
 {
@@ -34,7 +34,8 @@ pub fn load_to(neighbours: &[Option<Neighbour>], node: Addr) -> Option<(u32, u32
     }
 }
 
-/// The number of packets that wait on the active link to the node of an address: None exactly where there is no contact with it.
+/// The number of packets that wait on the active link to the node of an address: None exactly where there is no contact
+/// with it.
 pub fn waiting_to(neighbours: &[Option<Neighbour>], node: Addr) -> Option<u32>
     ensures { result ≡ waiting_to neighbours.now node }
 {
@@ -124,8 +125,8 @@ pub fn meet(
     Ok(back)
 }
 
-/// Puts a message on the active link to the neighbour of that number, in the packets that it takes. The answer is the entry
-/// that tells that it is accepted.
+/// Puts a message on the active link to the neighbour of that number, in the packets that it takes. The answer is the
+/// entry that tells that it is accepted.
 pub fn accept(
     neighbour: &mut Neighbour,
     alloc: Global,
@@ -147,8 +148,8 @@ pub fn accept(
     Ok(entry)
 }
 
-/// Puts a message on the active link to the neighbour of that number, in the packets that it takes, and tells that it is
-/// accepted.
+/// Puts a message on the active link to the neighbour of that number, in the packets that it takes, and tells that it
+/// is accepted.
 pub fn put_on(
     neighbour: &mut Neighbour,
     alloc: Global,

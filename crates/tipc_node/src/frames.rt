@@ -29,8 +29,8 @@ use tipc_types::{Addr, Arrival, BroadcastState, Flow, Message, NoMemory, Why};
 /// The most entries of what an arrival delivers, of the free entries that a call needs.
 pub const MOST_TOLD: usize = FREE_ENTRIES as usize - 4;
 
-/// A packet of another node that nothing stops, and the two numbers of its envelope: a link packet is due at the link of
-/// a bearer to its sender.
+/// A packet of another node that nothing stops, and the two numbers of its envelope: a link packet is due at the link
+/// of a bearer to its sender.
 #[derive(Clone, Copy)]
 pub struct Due<'a> {
     /// What kind it is.
@@ -154,8 +154,8 @@ pub struct Delivery {
     pub message: Option<Message>,
 }
 
-/// The entry of a whole packet that was given in a flow of a contact: its message is delivered, or the packet is dropped
-/// where it carries none.
+/// The entry of a whole packet that was given in a flow of a contact: its message is delivered, or the packet is
+/// dropped where it carries none.
 fn delivered_entry(
     flow: Flow,
     peer: u8,
@@ -185,8 +185,8 @@ fn is_of_items(message: &Option<Message>) -> bool
     matches!(message, Some(Message::Items { .. }))
 }
 
-/// The message that is delivered in a flow, of one that a packet carries: name items are told to each peer by itself, so none
-/// is broadcast. (This project's profile.)
+/// The message that is delivered in a flow, of one that a packet carries: name items are told to each peer by itself,
+/// so none is broadcast. (This project's profile.)
 fn in_flow(flow: Flow, message: Option<Message>) -> Option<Message>
     ensures { result ≡ in_flow flow message }
 {
@@ -364,8 +364,8 @@ pub struct Hearing {
     pub answer: Arrival,
 }
 
-/// What a packet will make of a neighbour; `number` is the arrival's number at this node, and `shown` is what a STATE to the
-/// neighbour shows of the broadcast link. Nothing is changed yet.
+/// What a packet will make of a neighbour; `number` is the arrival's number at this node, and `shown` is what a STATE
+/// to the neighbour shows of the broadcast link. Nothing is changed yet.
 pub fn prepare(
     alloc: Global,
     neighbour: &Neighbour,

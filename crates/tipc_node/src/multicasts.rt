@@ -123,7 +123,8 @@ fn cast(
 }
 
 impl Draft {
-    /// Queues a multicast at each port that hears it, as it was told when the sockets were as they are. It takes no memory.
+    /// Queues a multicast at each port that hears it, as it was told when the sockets were as they are. It takes no
+    /// memory.
     pub(crate) fn spread(&mut self, spreading: Spreading)
         requires { (arrived : Bool) × (m : Message) × (spreading ≡ spread_of self.old.work.sockets arrived m) }
         ensures { (arrived : Bool) (m : Message) → spreading ≡ spread_of self.old.work.sockets arrived m →
@@ -196,8 +197,8 @@ impl Core {
         }
     }
 
-    /// What is told of a multicast: its fate at these own ports, and behind it that it is accepted for each peer in contact,
-    /// where it goes out.
+    /// What is told of a multicast: its fate at these own ports, and behind it that it is accepted for each peer in
+    /// contact, where it goes out.
     fn tell_spread(
         &self,
         alloc: Global,
@@ -218,8 +219,8 @@ impl Core {
         Ok(inside)
     }
 
-    /// Spreads a multicast that nothing speaks against: it has its fate at the own node, is accepted for each peer in contact
-    /// where it goes out, and leaves for all of them at once. What can fail is done first.
+    /// Spreads a multicast that nothing speaks against: it has its fate at the own node, is accepted for each peer in
+    /// contact where it goes out, and leaves for all of them at once. What can fail is done first.
     fn spread(
         &mut self,
         alloc: Global,
@@ -258,10 +259,10 @@ impl Core {
         Ok(())
     }
 
-    /// Sends a message to each port that offers in a range. NoSocket exactly where the sending port isn't there, else TooLong
-    /// exactly where the body has more than 66,000 bytes, else BadRange exactly where the lower bound is above the upper,
-    /// else NoName exactly where nobody offers in the range, else, where a peer does, Congested exactly where as many
-    /// packets wait on the broadcast link as the limit of the importance.
+    /// Sends a message to each port that offers in a range. NoSocket exactly where the sending port isn't there, else
+    /// TooLong exactly where the body has more than 66,000 bytes, else BadRange exactly where the lower bound is above
+    /// the upper, else NoName exactly where nobody offers in the range, else, where a peer does, Congested exactly
+    /// where as many packets wait on the broadcast link as the limit of the importance.
     pub(crate) fn multicast(
         &mut self,
         alloc: Global,

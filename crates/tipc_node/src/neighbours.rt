@@ -313,8 +313,8 @@ fn copy_for(broadcast: &Broadcast, alloc: Global, upkeep: Upkeep) -> Result<Broa
     Ok(copy)
 }
 
-/// The broadcast link within an event: the copy, where there is one; else one of it as it was before a bearer was mended
-/// or cut.
+/// The broadcast link within an event: the copy, where there is one; else one of it as it was before a bearer was
+/// mended or cut.
 fn link_in(
     taken: Option<Broadcast>,
     broadcast: &Broadcast,
@@ -358,7 +358,8 @@ fn change_link(
     Ok(())
 }
 
-/// These changes are told of the neighbour of that number: where the contact with it ended it leaves the broadcast link.
+/// These changes are told of the neighbour of that number: where the contact with it ended it leaves the broadcast
+/// link.
 fn follow(
     event: &mut Parting,
     alloc: Global,

@@ -156,8 +156,8 @@ impl Node {
         self.neighbour(peer)?.pair.contact()
     }
 
-    /// The numbers of packets unacknowledged and waiting, each on all its links together that are up, and on its broadcast
-    /// link.
+    /// The numbers of packets unacknowledged and waiting, each on all its links together that are up, and on its
+    /// broadcast link.
     pub fn load(&self) -> (u64, u64)
         ensures { result ≡ node_load self.now }
     {
@@ -179,8 +179,9 @@ impl Node {
         self.neighbour(peer)?.pair.state(bearer)
     }
 
-    /// How many packets each direction numbered in the present link session with the peer on a bearer, 0 or 1, or in the last one: the own
-    /// ones exactly, and the peer's as taken. None exactly where there is no link end, or it had no session.
+    /// How many packets each direction numbered in the present link session with the peer on a bearer, 0 or 1, or in
+    /// the last one: the own ones exactly, and the peer's as taken. None exactly where there is no link end, or it had
+    /// no session.
     pub fn numbered(&self, peer: u8, bearer: u8) -> Option<(u64, u64)>
         requires { bearer ≤ 1 }
         ensures { result ≡ numbered_of (end_with bearer (neighbour_of self.now peer)) }
@@ -206,8 +207,8 @@ impl Node {
     }
 
     /// Promises that so many calls, at least, find their memory: as many among `receive`, `cancel`, `next_event` and a
-    /// `withdraw` of which no peer is told are made though memory has run out. Each call or arrival that is recorded uses one
-    /// of them up, and takes no memory that is promised.
+    /// `withdraw` of which no peer is told are made though memory has run out. Each call or arrival that is recorded
+    /// uses one of them up, and takes no memory that is promised.
     ///
     /// # Errors
     ///
@@ -233,16 +234,16 @@ impl Node {
         self.core.into_journal()
     }
 
-    /// Performs a call, and answers it: a socket is made or closed, names are published there and withdrawn, a message is
-    /// sent to a port, by name or to every port with a publication that overlaps a range, or taken from an inbox; a
-    /// subscription is made or cancelled, or its next event is taken; a bearer is mended or cut; a tick passes. The call is
-    /// one step of the journal. The chooser says
-    /// to which of those that a name finds a message goes, and turns where one was sent so.
+    /// Performs a call, and answers it: a socket is made or closed, names are published there and withdrawn, a message
+    /// is sent to a port, by name or to every port with a publication that overlaps a range, or taken from an inbox; a
+    /// subscription is made or cancelled, or its next event is taken; a bearer is mended or cut; a tick passes. The
+    /// call is one step of the journal. The chooser says to which of those that a name finds a message goes, and turns
+    /// where one was sent so.
     ///
     /// # Errors
     ///
-    /// JournalFull exactly where the journal has no room for a call, else NoMemory. Neither changes anything. A call that
-    /// takes no memory, where memory was promised, doesn't fail for want of it: see [`Node::reserve`].
+    /// JournalFull exactly where the journal has no room for a call, else NoMemory. Neither changes anything. A call
+    /// that takes no memory, where memory was promised, doesn't fail for want of it: see [`Node::reserve`].
     pub fn perform<P: Pick>(
         &mut self,
         alloc: Global,
@@ -273,13 +274,12 @@ impl Node {
         answer
     }
 
-    /// A frame arrives on a bearer; `number` is its number among all that arrived at this node. A packet that it
-    /// brings is taken by the link of the node that it names as its sender, or by the broadcast link where it is one of
-    /// broadcast; a message that is given is recorded as delivered and has its fate: it waits at its port, or goes back,
-    /// or is dropped. A STATE that is due is sent last. A
-    /// request of discovery is answered by a response to its sender; a sender that is new on the bearer gets its link
-    /// end, whose RESET is sent. A frame that is stopped is ignored for the first reason that holds. The arrival is one
-    /// step of the journal.
+    /// A frame arrives on a bearer; `number` is its number among all that arrived at this node. A packet that it brings
+    /// is taken by the link of the node that it names as its sender, or by the broadcast link where it is one of
+    /// broadcast; a message that is given is recorded as delivered and has its fate: it waits at its port, or goes
+    /// back, or is dropped. A STATE that is due is sent last. A request of discovery is answered by a response to its
+    /// sender; a sender that is new on the bearer gets its link end, whose RESET is sent. A frame that is stopped is
+    /// ignored for the first reason that holds. The arrival is one step of the journal.
     ///
     /// # Errors
     ///

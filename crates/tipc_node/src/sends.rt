@@ -96,8 +96,8 @@ impl Core {
         None
     }
 
-    /// Why a message for a node is refused on its way: there is no contact with it, or as many packets wait as the limit says. A
-    /// message for the own node needs no link.
+    /// Why a message for a node is refused on its way: there is no contact with it, or as many packets wait as the
+    /// limit says. A message for the own node needs no link.
     fn way_refusal(&self, node: Addr, limit: u32) -> Option<Answer>
         ensures { result ≡ way_refusal self.now node limit }
     {
@@ -162,7 +162,8 @@ impl Core {
         Ok(())
     }
 
-    /// Sends a message that nothing speaks against but its way. The answer is why it is refused there: None where it is sent.
+    /// Sends a message that nothing speaks against but its way. The answer is why it is refused there: None where it is
+    /// sent.
     fn send_to(
         &mut self,
         alloc: Global,
@@ -202,9 +203,9 @@ impl Core {
         Ok(None)
     }
 
-    /// Sends a message to a port. NoSocket exactly where the sending port isn't there, else TooLong exactly where the body has
-    /// more than 66,000 bytes, else, where it is for another node, NoNode exactly where there is no contact with that node, else
-    /// Congested exactly where as many packets wait on the link as the limit of the importance.
+    /// Sends a message to a port. NoSocket exactly where the sending port isn't there, else TooLong exactly where the
+    /// body has more than 66,000 bytes, else, where it is for another node, NoNode exactly where there is no contact
+    /// with that node, else Congested exactly where as many packets wait on the link as the limit of the importance.
     pub(crate) fn send_port(
         &mut self,
         alloc: Global,
@@ -233,8 +234,8 @@ impl Core {
     }
 
     /// Sends a message by name, to the one that the chooser gives of those that the name finds, closest first. As
-    /// [`Core::send_port`], and NoName exactly where the sender isn't refused and the name finds nothing. The chooser turns where
-    /// the message was sent.
+    /// [`Core::send_port`], and NoName exactly where the sender isn't refused and the name finds nothing. The chooser
+    /// turns where the message was sent.
     pub(crate) fn send_name<P: Pick>(
         &mut self,
         alloc: Global,

@@ -83,7 +83,8 @@ pub fn begin(journal: &mut Journal, inside: u64) -> Result<(), NodeFault>
     Ok(())
 }
 
-/// Records a step: who made the call, the call, what happened in it, and its answer. One of the promised calls is used up.
+/// Records a step: who made the call, the call, what happened in it, and its answer. One of the promised calls is used
+/// up.
 pub fn record(journal: &mut Journal, by: By, event: EventNote, inside: Vec<Entry>, answer: Answer)
     requires room { has_journal_room journal.old.entries ≡ true }
     requires few { length inside.items ≤ free_entries - 2 }
@@ -124,8 +125,8 @@ pub fn record_entry(journal: &mut Journal, by: By, event: EventNote, inside: Ent
     journal.release();
 }
 
-/// Makes a journal ready for a step with one entry inside at most, which needs no memory where one of the promised calls is
-/// left.
+/// Makes a journal ready for a step with one entry inside at most, which needs no memory where one of the promised
+/// calls is left.
 pub fn make_ready(journal: &mut Journal) -> Result<(), NoMemory>
     ensures ok { OnOk result (IsReady journal.new) }
     ensures succeeds { 0 < journal.old.kept → IsOk result }

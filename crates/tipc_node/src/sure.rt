@@ -60,8 +60,8 @@ fn told_count(delivery: &Delivery) -> usize
     }
 }
 
-/// How many entries tell of deliveries whose messages wait at their ports: None where they are more than fit into a step, or
-/// have more message bytes.
+/// How many entries tell of deliveries whose messages wait at their ports: None where they are more than fit into a
+/// step, or have more message bytes.
 pub fn told_size(deliveries: &[Delivery]) -> Option<u64>
     ensures size { IfSome result (λ size. size ≡ length (told_in deliveries.now)) }
     ensures few { IfSome result (λ size. size ≤ free_entries - 4) }

@@ -1,4 +1,5 @@
-//! The inboxes of a node's sockets, each between two ends: the place behind the lock gives, and the pass that made the socket takes.
+//! The inboxes of a node's sockets, each between two ends: the place behind the lock gives, and the pass that made the
+//! socket takes.
 
 ghost use Rattle.std.specs.Prelude.{◌≡◌, ◌==◌, ◌≤◌, ◌<◌, true, None, not, filter, is_some, length, unwrap_or, vec_capacity, vec_len, IfOk, MatchOption};
 ghost use Rattle.std.specs.List.{position};
@@ -15,7 +16,8 @@ use tipc_types::{Answer, EventNote, Message, NoMemory};
 #[derive(Clone, Copy, Debug, PartialEq, Eq)]
 pub struct NoSocket;
 
-/// The place of a socket behind the lock: the end of its inbox that gives, and a message that stands by, since the inbox gave it back.
+/// The place of a socket behind the lock: the end of its inbox that gives, and a message that stands by, since the
+/// inbox gave it back.
 #[derive(Drop)]
 pub struct Place {
     pub(crate) port: u32,
@@ -145,7 +147,8 @@ impl Place {
         self.standing.is_none()
     }
 
-    /// Offers a message to the inbox. It stands by where the inbox gives it back. This may wait for the thread that takes.
+    /// Offers a message to the inbox. It stands by where the inbox gives it back. This may wait for the thread that
+    /// takes.
     pub(crate) fn offer<R: Wait>(&mut self, rt: &R, message: Message)
         requires { self.old.standing ≡ None }
         ensures { Offers self.old message self.new }
@@ -247,7 +250,8 @@ fn close(places: &mut Vec<Place>, takers: &mut Vec<PortTaker>, port: u32, answer
     }
 }
 
-/// Follows a call that was answered so: a socket that was made has this inbox, and one that was closed has none. It takes no memory.
+/// Follows a call that was answered so: a socket that was made has this inbox, and one that was closed has none. It
+/// takes no memory.
 pub(crate) fn follow(
     places: &mut Vec<Place>,
     takers: &mut Vec<PortTaker>,

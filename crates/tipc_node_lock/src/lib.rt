@@ -1,5 +1,5 @@
-//! A node behind a lock, for threads that call it at once. Each call is made whole under the lock and is one step of the node's journal,
-//! under a stamp that orders the calls of all threads.
+//! A node behind a lock, for threads that call it at once. Each call is made whole under the lock and is one step of
+//! the node's journal, under a stamp that orders the calls of all threads.
 //!
 //! - The lock: `locks` (what threads share, and its calls), `passes` (what each of them calls with).
 //! - Behind it: `locked` (the node with what its calls need, and what is done for one call: its section), `moves` (what moves messages to the

@@ -27,12 +27,13 @@ use tipc_pick::{Chooser, Pick};
 use tipc_stamp::{StampSeat, Stamps};
 use tipc_types::{Addr, Answer, Arrival, By, Bytes, EventNote, NoMemory};
 
-/// A node with what its calls by many threads need: the chooser of its messages by name, the frames that arrived, by their numbers, those that
-/// are to leave, how often each caller was answered, and the places of its sockets' inboxes. When it is taken out of its lock, the passes stand
-/// in it.
+/// A node with what its calls by many threads need: the chooser of its messages by name, the frames that arrived, by
+/// their numbers, those that are to leave, how often each caller was answered, and the places of its sockets' inboxes.
+/// When it is taken out of its lock, the passes stand in it.
 ///
-/// Its type keeps that the journal tells what the node is, that the calls of each caller are counted from 0 in it, that the arrivals in it are
-/// those of the frames, and that just the sockets have inboxes, to which was offered what was received from their ports.
+/// Its type keeps that the journal tells what the node is, that the calls of each caller are counted from 0 in it, that
+/// the arrivals in it are those of the frames, and that just the sockets have inboxes, to which was offered what was
+/// received from their ports.
 #[derive(Drop)]
 pub struct LockedNode<P> {
     pub(crate) node: Node,
@@ -69,7 +70,8 @@ impl<P> Model for LockedNode<P> {
     }) × AreCounts n.node.journal n.counts.items × (1 ≤ length n.counts.items) };
 }
 
-/// Whether a call of a pass may be made: the journal has room for it, and the seat isn't spent. A full journal is marked in the pass.
+/// Whether a call of a pass may be made: the journal has room for it, and the seat isn't spent. A full journal is
+/// marked in the pass.
 fn admit(node: &Node, pass: &mut Pass) -> Result<(), LockFault>
     ensures ok { OnOk result ((has_journal_room node.now.journal ≡ true) × (is_spent pass.old.seat ≡ false) ×
         (pass.new ≡ pass.old)) }
@@ -85,7 +87,8 @@ fn admit(node: &Node, pass: &mut Pass) -> Result<(), LockFault>
     Ok(())
 }
 
-/// Who makes the next call: a caller, under the next stamp of its seat, which isn't spent, and with the number that the counts tell.
+/// Who makes the next call: a caller, under the next stamp of its seat, which isn't spent, and with the number that the
+/// counts tell.
 pub(crate) fn next_by(stamps: &Stamps, seat: &mut StampSeat, counts: &[u64], caller: u32) -> By
     requires of { seat.old.of_table ≡ stamps.now }
     requires left { is_spent seat.old ≡ false }
@@ -139,9 +142,10 @@ impl<P: Drop> LockedNode<P> {
 }
 
 impl<P> LockedNode<P> {
-    /// Its journal tells what the node is: contacts and links, sockets, names and subscriptions. The calls of each caller are counted from 0 in
-    /// it, each of its steps can be made again, and the arrivals in it are those of the frames that are kept. Just the sockets have an inbox, and
-    /// what was received from a port was offered to its inbox in that order, but for one message that may stand by. It does nothing.
+    /// Its journal tells what the node is: contacts and links, sockets, names and subscriptions. The calls of each
+    /// caller are counted from 0 in it, each of its steps can be made again, and the arrivals in it are those of the
+    /// frames that are kept. Just the sockets have an inbox, and what was received from a port was offered to its inbox
+    /// in that order, but for one message that may stand by. It does nothing.
     pub fn told(&self)
         ensures { IsWellKept self.now }
     {
@@ -210,8 +214,9 @@ impl<P> LockedNode<P> {
         leaving
     }
 
-    /// A frame arrives on a bearer as the next call of the pass's caller, under the number of frames that arrived before. It is kept behind
-    /// those, and the arrival stands in the pass, as the journal keeps it. No message is moved.
+    /// A frame arrives on a bearer as the next call of the pass's caller, under the number of frames that arrived
+    /// before. It is kept behind those, and the arrival stands in the pass, as the journal keeps it. No message is
+    /// moved.
     fn hear(
         &mut self,
         alloc: Global,
@@ -246,8 +251,8 @@ impl<P> LockedNode<P> {
 }
 
 impl<P: Pick> LockedNode<P> {
-    /// Performs a call as the next one of the pass's caller, and it stands in the pass, with its answer as the journal keeps it. A socket that
-    /// was made has an inbox then, and one that was closed has none. No message is moved.
+    /// Performs a call as the next one of the pass's caller, and it stands in the pass, with its answer as the journal
+    /// keeps it. A socket that was made has an inbox then, and one that was closed has none. No message is moved.
     fn make(
         &mut self,
         alloc: Global,
@@ -282,14 +287,15 @@ impl<P: Pick> LockedNode<P> {
         Ok(answer)
     }
 
-    /// A frame arrives on a bearer as the next call of the pass's caller, under the number of frames that arrived before. It is kept behind
-    /// those, and the arrival stands in the pass, as the journal keeps it. Then messages move to the inboxes. Nothing is asked of the frame:
-    /// whatever its bytes are, the node behind it is valid, as [`tipc_node::Node::arrive`] promises and [`LockedNode::told`] keeps.
+    /// A frame arrives on a bearer as the next call of the pass's caller, under the number of frames that arrived
+    /// before. It is kept behind those, and the arrival stands in the pass, as the journal keeps it. Then messages move
+    /// to the inboxes. Nothing is asked of the frame: whatever its bytes are, the node behind it is valid, as
+    /// [`tipc_node::Node::arrive`] promises and [`LockedNode::told`] keeps.
     ///
     /// # Errors
     ///
-    /// JournalFull exactly where the journal has no room for a call, which is marked in the pass; else Spent exactly where the seat is spent;
-    /// else NoMemory, where the seat may have drawn a stamp. Nothing else is changed.
+    /// JournalFull exactly where the journal has no room for a call, which is marked in the pass; else Spent exactly
+    /// where the seat is spent; else NoMemory, where the seat may have drawn a stamp. Nothing else is changed.
     pub fn arrive<R: Wait>(
         &mut self,
         rt: &R,
@@ -310,13 +316,14 @@ impl<P: Pick> LockedNode<P> {
         Ok(arrival)
     }
 
-    /// Performs a call, any but a receive, as the next one of the pass's caller, and it stands in the pass, with its answer as the journal keeps
-    /// it. A socket that was made has an inbox then, whose taker the pass holds. Then messages move to the inboxes.
+    /// Performs a call, any but a receive, as the next one of the pass's caller, and it stands in the pass, with its
+    /// answer as the journal keeps it. A socket that was made has an inbox then, whose taker the pass holds. Then
+    /// messages move to the inboxes.
     ///
     /// # Errors
     ///
-    /// JournalFull exactly where the journal has no room for a call, which is marked in the pass; else Spent exactly where the seat is spent;
-    /// else NoMemory, where the seat may have drawn a stamp. Nothing else is changed.
+    /// JournalFull exactly where the journal has no room for a call, which is marked in the pass; else Spent exactly
+    /// where the seat is spent; else NoMemory, where the seat may have drawn a stamp. Nothing else is changed.
     pub fn perform<R: Wait>(
         &mut self,
         rt: &R,

@@ -22,9 +22,10 @@ use tipc_types::{Addr, Answer, Arrival, EventNote, Message, NoMemory};
 
 /// A node that several threads call, each with a pass of its own: their calls are made one after the other.
 ///
-/// Contracts see its node's address, the word that its stamps are drawn from, and how many callers it has. No clause sees what is behind a
-/// lock: what a call does there stands on its section (`LockedNode::perform`, `LockedNode::arrive`), and what it tells its caller stands here.
-/// That a call which may wait comes back is not promised.
+/// Contracts see its node's address, the word that its stamps are drawn from, and how many callers it has. No clause
+/// sees what is behind a lock: what a call does there stands on its section (`LockedNode::perform`,
+/// `LockedNode::arrive`), and what it tells its caller stands here. That a call which may wait comes back is not
+/// promised.
 #[derive(Drop)]
 pub struct NodeLock<'s, P> {
     own: Addr,
@@ -42,8 +43,8 @@ impl<'s, P> Model for NodeLock<'s, P> {
 }
 
 impl<'s, P: Drop> NodeLock<'s, P> {
-    /// A node of that boot behind a lock, with a chooser at turn 0, and a pass for each of its callers, which have the numbers from 1 on. There
-    /// are as many seats as callers.
+    /// A node of that boot behind a lock, with a chooser at turn 0, and a pass for each of its callers, which have the
+    /// numbers from 1 on. There are as many seats as callers.
     ///
     /// # Errors
     ///
@@ -79,7 +80,8 @@ impl<'s, P: Drop> NodeLock<'s, P> {
 }
 
 impl<'s, P> NodeLock<'s, P> {
-    /// Gives the frames that are to leave to the caller of the pass, which counts them. It waits for its turn, and is no call of the node.
+    /// Gives the frames that are to leave to the caller of the pass, which counts them. It waits for its turn, and is
+    /// no call of the node.
     pub fn outgoing<R: Wait>(&self, rt: &R, alloc: Global, pass: &mut Pass) -> Outbox
         requires pass { IsPassOf self.now pass.old }
         ensures { pass.new ≡ with_handed pass.old (length (frames_leaving result)) }
@@ -87,8 +89,9 @@ impl<'s, P> NodeLock<'s, P> {
         self.lock.lock(rt).outgoing(alloc, pass)
     }
 
-    /// Takes the first message that is held in the inbox of a port, whose socket the pass made: None only where none was held at some moment of
-    /// the call. It takes no lock, draws no stamp and is no call of the node; it may wait for a call that gives to the inbox.
+    /// Takes the first message that is held in the inbox of a port, whose socket the pass made: None only where none
+    /// was held at some moment of the call. It takes no lock, draws no stamp and is no call of the node; it may wait
+    /// for a call that gives to the inbox.
     ///
     /// # Errors
     ///
@@ -106,7 +109,8 @@ impl<'s, P> NodeLock<'s, P> {
         pass.receive(rt, port)
     }
 
-    /// The least stamp that isn't drawn yet: it is above those that the pass drew, and not below what it saw before. It waits for nobody.
+    /// The least stamp that isn't drawn yet: it is above those that the pass drew, and not below what it saw before. It
+    /// waits for nobody.
     pub fn seen(&self, pass: &mut Pass) -> u64
         requires pass { IsPassOf self.now pass.old }
         ensures saw { pass.new ≡ with_seen pass.old result }
@@ -119,7 +123,8 @@ impl<'s, P> NodeLock<'s, P> {
     ///
     /// # Errors
     ///
-    /// Lock and passes come back exactly where the passes aren't one for each caller number, each with this node's address.
+    /// Lock and passes come back exactly where the passes aren't one for each caller number, each with this node's
+    /// address.
     pub fn into_locked(
         self,
         passes: Vec<Pass>,
@@ -142,7 +147,8 @@ impl<'s, P: Pick> NodeLock<'s, P> {
     ///
     /// # Errors
     ///
-    /// As of the section: JournalFull is marked in the pass, Spent comes exactly where its seat is spent, else NoMemory.
+    /// As of the section: JournalFull is marked in the pass, Spent comes exactly where its seat is spent, else
+    /// NoMemory.
     pub fn arrive<R: Wait>(
         &self,
         rt: &R,
@@ -161,11 +167,13 @@ impl<'s, P: Pick> NodeLock<'s, P> {
             .arrive(rt, alloc, self.stamps, pass, bearer, frame)
     }
 
-    /// Performs a call as the next one of the pass's caller: any but a receive. It waits for its turn, and makes the section.
+    /// Performs a call as the next one of the pass's caller: any but a receive. It waits for its turn, and makes the
+    /// section.
     ///
     /// # Errors
     ///
-    /// As of the section: JournalFull is marked in the pass, Spent comes exactly where its seat is spent, else NoMemory.
+    /// As of the section: JournalFull is marked in the pass, Spent comes exactly where its seat is spent, else
+    /// NoMemory.
     pub fn perform<R: Wait>(
         &self,
         rt: &R,

@@ -1,4 +1,5 @@
-//! Messages move, behind a locked call: what waits at the ports is received, as caller 0, and offered to the inboxes of the sockets.
+//! Messages move, behind a locked call: what waits at the ports is received, as caller 0, and offered to the inboxes of
+//! the sockets.
 
 ghost use Rattle.std.specs.Prelude.{◌≡◌, ◌<◌, true, false, length, IfOk, MatchOption, OnErr};
 ghost use Rattle.tipc_types.specs.declared.node_calls.Answer.TheVariants.{Received};
@@ -65,7 +66,8 @@ fn receive_first<P: Pick>(
 }
 
 impl<P> LockedNode<P> {
-    /// Offers the message that stands by at a place once more, where one does. Answers the place's port where none stands by then.
+    /// Offers the message that stands by at a place once more, where one does. Answers the place's port where none
+    /// stands by then.
     fn offer_standing<R: Wait>(&mut self, rt: &R, index: usize) -> Option<u32>
         requires { index < length self.old.places }
         ensures moves { (p : PassState) → Advances index 0 self.old self.new p p }
@@ -121,8 +123,8 @@ impl<P: Pick> LockedNode<P> {
         Onward::Next
     }
 
-    /// Moves the messages that wait at the port of a place, one after the other, behind the one that stands by. Answers whether the next place
-    /// has its turn.
+    /// Moves the messages that wait at the port of a place, one after the other, behind the one that stands by. Answers
+    /// whether the next place has its turn.
     fn move_at<R: Wait>(
         &mut self,
         rt: &R,
@@ -151,9 +153,10 @@ impl<P: Pick> LockedNode<P> {
         true
     }
 
-    /// Moves messages place by place, in the order in which the sockets were made, until all are moved for which the inboxes have a place, or
-    /// the journal has no room, the seat is spent, or memory runs out, which is marked in the pass.
-    /// It looks at each place in turn, also where nothing waits, so a call costs time for each socket of the node.
+    /// Moves messages place by place, in the order in which the sockets were made, until all are moved for which the
+    /// inboxes have a place, or the journal has no room, the seat is spent, or memory runs out, which is marked in the
+    /// pass. It looks at each place in turn, also where nothing waits, so a call costs time for each socket of the
+    /// node.
     pub(crate) fn move_all<R: Wait>(
         &mut self,
         rt: &R,

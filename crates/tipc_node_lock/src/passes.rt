@@ -13,7 +13,8 @@ use std::sync::Wait;
 use tipc_stamp::StampSeat;
 use tipc_types::{Addr, Answer, EventNote, Message, NoMemory};
 
-/// A call that a caller made: its stamp, the call, and its answer as the node's journal keeps it. (This project's profile.)
+/// A call that a caller made: its stamp, the call, and its answer as the node's journal keeps it. (This project's
+/// profile.)
 #[derive(Drop)]
 pub struct MadeCall {
     /// The call's place among all calls of all nodes.
@@ -24,11 +25,12 @@ pub struct MadeCall {
     pub answer: Answer,
 }
 
-/// What one caller calls a locked node with. It may go to another thread. It holds the takers of just the ports whose sockets it made and
-/// didn't close since.
+/// What one caller calls a locked node with. It may go to another thread. It holds the takers of just the ports whose
+/// sockets it made and didn't close since.
 ///
-/// Contracts see its seat, its node's address, the caller's number there, from 1 on, the calls that it made, whether it was told that the
-/// journal is full, whether memory ran out when it moved messages, how many frames it was handed, and its takers.
+/// Contracts see its seat, its node's address, the caller's number there, from 1 on, the calls that it made, whether it
+/// was told that the journal is full, whether memory ran out when it moved messages, how many frames it was handed, and
+/// its takers.
 #[derive(Drop)]
 pub struct Pass {
     pub(crate) seat: StampSeat,

@@ -122,8 +122,9 @@ impl Queues {
     }
 }
 
-/// A medium that the bearers of up to 32 nodes share, two for each node. It keeps the frames that wait for each of them,
-/// each bearer's under a lock of its own. A node that doesn't hear loses what comes while 4,096 frames wait for it.
+/// A medium that the bearers of up to 32 nodes share, two for each node. It keeps the frames that wait for each of
+/// them, each bearer's under a lock of its own. A node that doesn't hear loses what comes while 4,096 frames wait for
+/// it.
 #[derive(Drop)]
 pub struct Medium {
     first: Mutex<Queues>,

@@ -111,8 +111,8 @@ impl<W: io::Write + Drop> Sink for StdSink<W> {
     }
 }
 
-/// The time since its first look in hundredths of a second, by the system's clock that doesn't go back. Where that can't
-/// be read it tells the last time again. Trusted edge: what the clock tells is the system's word.
+/// The time since its first look in hundredths of a second, by the system's clock that doesn't go back. Where that
+/// can't be read it tells the last time again. Trusted edge: what the clock tells is the system's word.
 #[derive(Drop)]
 pub struct StdClock<R: time::Clock + Drop> {
     rt: R,

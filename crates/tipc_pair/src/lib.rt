@@ -1,4 +1,5 @@
-//! What a node keeps of a peer: a link end on each of two bearers, the contact that lasts while a link is up, and the message that is begun.
+//! What a node keeps of a peer: a link end on each of two bearers, the contact that lasts while a link is up, and the
+//! message that is begun.
 //!
 //! - The pair: `pair` (what it is, and its calls), `link_ends` (its two link ends, seen from one of them), `laws` (what its
 //!   calls keep).

@@ -207,8 +207,8 @@ impl LinkEnds {
         self.take_reset(alloc, sender_epoch, shown, event)
     }
 
-    /// A RESET under this epoch, which shows the highest contact number. Where it took the last link down the contact ended, and
-    /// it is given to the end again.
+    /// A RESET under this epoch, which shows the highest contact number. Where it took the last link down the contact
+    /// ended, and it is given to the end again.
     fn take_reset(
         &mut self,
         alloc: Global,
@@ -280,8 +280,9 @@ impl LinkEnds {
         Ok(PairOutcome::Took(given))
     }
 
-    /// What is to be opened of the packets that the near link took. Only the first of them can be a tunnel packet: what it frees in the
-    /// far link's record comes before the packets behind it. Placeholders have no bytes, and are left out.
+    /// What is to be opened of the packets that the near link took. Only the first of them can be a tunnel packet: what
+    /// it frees in the far link's record comes before the packets behind it. Placeholders have no bytes, and are left
+    /// out.
     fn unwrap(
         &mut self,
         alloc: Global,
@@ -301,8 +302,8 @@ impl LinkEnds {
         Ok(opened)
     }
 
-    /// What the first of these packets carries for the far link. None exactly where there is no such packet, it is no tunnel packet that
-    /// unwraps, or it speaks of another bearer than the far link's, or of one that has no end.
+    /// What the first of these packets carries for the far link. None exactly where there is no such packet, it is no
+    /// tunnel packet that unwraps, or it speaks of another bearer than the far link's, or of one that has no end.
     fn carried_in(&self, alloc: Global, taken: &TakenList) -> Result<Option<Carried>, NoMemory>
         ensures some { IfOk result (λ found. (carried : Carried) → found ≡ Some carried →
             IsCarriedIn self.now taken.now carried) }
@@ -330,7 +331,8 @@ impl LinkEnds {
         tunnel.old.bearer == 1 - self.bearer && self.far.is_some()
     }
 
-    /// Takes what came in a tunnel packet on the near link: an original of the far link's present session takes that link down first.
+    /// Takes what came in a tunnel packet on the near link: an original of the far link's present session takes that
+    /// link down first.
     fn take_carried(
         &mut self,
         alloc: Global,
@@ -348,8 +350,8 @@ impl LinkEnds {
         Ok(freed)
     }
 
-    /// A packet of the far link came through the near one. If it is the original, a far link that is up under this epoch of the peer goes
-    /// down.
+    /// A packet of the far link came through the near one. If it is the original, a far link that is up under this
+    /// epoch of the peer goes down.
     #[tactic(auto, using(tipc_outside::proofs::Adding::gains_none))]
     fn take_far_down(
         &mut self,
@@ -367,7 +369,8 @@ impl LinkEnds {
         }
     }
 
-    /// The original of a packet of the far link came through the near one: a far link that is up under this epoch of the peer goes down.
+    /// The original of a packet of the far link came through the near one: a far link that is up under this epoch of
+    /// the peer goes down.
     fn take_original(
         &mut self,
         alloc: Global,
@@ -384,8 +387,8 @@ impl LinkEnds {
         Ok(())
     }
 
-    /// The original of a packet of the near link came through the far one: a near link that is up under this epoch of the peer goes
-    /// down.
+    /// The original of a packet of the near link came through the far one: a near link that is up under this epoch of
+    /// the peer goes down.
     #[tactic(auto, using(tipc_outside::proofs::Adding::gains_none))]
     fn take_down(&mut self, alloc: Global, epoch: u64, event: &mut Leaving) -> Result<(), NoMemory>
         ensures after { OnOk result (self.new ≡ (tunnelled_at epoch self.old self.old.near).pair) }
@@ -414,7 +417,8 @@ fn carried_by(alloc: Global, tunnel: &Tunnel<'_>, by: u64) -> Result<Carried, No
     })
 }
 
-/// Gives the packet inside a tunnel packet to the record of its link, as it waited to be sent there. An empty run only names an epoch.
+/// Gives the packet inside a tunnel packet to the record of its link, as it waited to be sent there. An empty run only
+/// names an epoch.
 fn take_inner(alloc: Global, link: &mut Link, carried: Carried) -> Result<TakenList, NoMemory>
     ensures freed { (bearer : ℕ) → IfOk result (λ freed. freed ≡
         freed_by (told_by bearer carried) carried.by link.old) }

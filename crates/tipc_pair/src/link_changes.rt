@@ -31,7 +31,8 @@ impl LinkEnds {
     ghost use Rattle.tipc_pair.specs.Courses.{AddsCourse};
     ghost use Rattle.tipc_pair.specs.Facing.{in_contact};
 
-    /// Does what a change of the near link asks for. `epoch` is the one that the peer's frame showed, where a frame did it.
+    /// Does what a change of the near link asks for. `epoch` is the one that the peer's frame showed, where a frame did
+    /// it.
     ///
     /// # Errors
     ///
@@ -82,8 +83,8 @@ impl LinkEnds {
         }
     }
 
-    /// The first link that goes up begins the contact. A second one takes the traffic over where its priority is the higher one, which is
-    /// bearer 0's.
+    /// The first link that goes up begins the contact. A second one takes the traffic over where its priority is the
+    /// higher one, which is bearer 0's.
     #[tactic(auto, using(tipc_outside::proofs::Adding::gains_none))]
     fn begin_or_switch(&mut self, alloc: Global, event: &mut Leaving) -> Result<(), NoMemory>
         requires { is_up_at self.old.near ≡ true }
@@ -145,9 +146,9 @@ impl LinkEnds {
         event.tell(Transition::ContactUp { contact })
     }
 
-    /// This contact ends: links that are still up go down, the node takes the next contact number, each end the next epoch, and the
-    /// begun message is dropped. `seen` is the highest contact number that the peer has shown then, and `shown` is that where it ends
-    /// the contact, or 0.
+    /// This contact ends: links that are still up go down, the node takes the next contact number, each end the next
+    /// epoch, and the begun message is dropped. `seen` is the highest contact number that the peer has shown then, and
+    /// `shown` is that where it ends the contact, or 0.
     fn end_contact(
         &mut self,
         alloc: Global,
@@ -185,8 +186,8 @@ impl LinkEnds {
         tell_end(&self.far, 1 - self.bearer, event)
     }
 
-    /// The node takes the next contact number, and each end its next epoch, and says RESET: the near one first. The begun message is
-    /// dropped.
+    /// The node takes the next contact number, and each end its next epoch, and says RESET: the near one first. The
+    /// begun message is dropped.
     fn part(&mut self, alloc: Global, seen: u64, event: &mut Leaving)
         requires { is_last self.old.contact ≡ false }
         ensures after { self.new ≡ parted (record self.old { seen = seen }) }
@@ -208,8 +209,8 @@ impl LinkEnds {
         (state_of(&self.near), state_of(&self.far))
     }
 
-    /// The peer shows a contact number above the highest seen: a contact ends, and without contact each end forgets the peer's
-    /// epoch.
+    /// The peer shows a contact number above the highest seen: a contact ends, and without contact each end forgets the
+    /// peer's epoch.
     #[tactic(auto, using(tipc_outside::proofs::Adding::gains_none))]
     pub(crate) fn rise(
         &mut self,
@@ -227,7 +228,8 @@ impl LinkEnds {
         Ok(())
     }
 
-    /// Without contact each end forgets the peer's epoch, and shows this as the highest contact number that the peer has shown.
+    /// Without contact each end forgets the peer's epoch, and shows this as the highest contact number that the peer
+    /// has shown.
     fn forget(&mut self, alloc: Global, seen: u64, event: &mut Leaving)
         requires { in_contact self.old ≡ false }
         ensures after { self.new ≡ forgotten self.old seen }
@@ -240,8 +242,8 @@ impl LinkEnds {
         forget_end(alloc, &mut self.far, own, seen, &mut event.out);
     }
 
-    /// The near link went down while the far one is up: that one gets, behind all that it has, originals of the unacknowledged
-    /// packets, and the packets that waited, but for tunnel packets. (This project's profile.)
+    /// The near link went down while the far one is up: that one gets, behind all that it has, originals of the
+    /// unacknowledged packets, and the packets that waited, but for tunnel packets. (This project's profile.)
     fn fail_over(&mut self, alloc: Global, event: &mut Leaving) -> Result<(), NoMemory>
         requires near { is_up_at self.old.near ≡ false }
         requires session { IfSome self.old.near (λ (e : LinkEnd). is_some e.session ≡ true) }
@@ -259,8 +261,8 @@ impl LinkEnds {
         load(alloc, far, pieces, &mut event.out)
     }
 
-    /// The near link went up, and becomes active in place of the far one: it gets duplicates of that one's unacknowledged packets, and
-    /// behind them the packets that waited there. (This project's profile.)
+    /// The near link went up, and becomes active in place of the far one: it gets duplicates of that one's
+    /// unacknowledged packets, and behind them the packets that waited there. (This project's profile.)
     fn switch(&mut self, alloc: Global, event: &mut Leaving) -> Result<(), NoMemory>
         requires near { is_up_at self.old.near ≡ true }
         requires far { is_up_at self.old.far ≡ true }

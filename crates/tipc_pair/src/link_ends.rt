@@ -20,7 +20,8 @@ use tipc_reassembly::Reassembly;
 use tipc_send_window::OfferFault;
 use tipc_types::{Addr, BroadcastState, LinkState, NoMemory, Pieces};
 
-/// The link ends of a pair, of which one is the near one: all calls are at the near link, and [`LinkEnds::face`] says which that is.
+/// The link ends of a pair, of which one is the near one: all calls are at the near link, and [`LinkEnds::face`] says
+/// which that is.
 #[derive(Drop)]
 pub(crate) struct LinkEnds {
     pub(crate) own: Addr,
@@ -395,8 +396,8 @@ pub(crate) fn load_of(link: &Option<Link>) -> (u32, u32)
     }
 }
 
-/// The own epoch of an end's present session, or of its last one, and how many packets were numbered in it. None exactly where there is no
-/// end, or it had no session.
+/// The own epoch of an end's present session, or of its last one, and how many packets were numbered in it. None
+/// exactly where there is no end, or it had no session.
 pub(crate) fn last_count_of(link: &Option<Link>) -> Option<(u64, u64)>
     ensures { result ≡ last_count_of link.now }
 {

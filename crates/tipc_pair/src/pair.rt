@@ -55,12 +55,13 @@ impl PairArriving {
     }
 }
 
-/// What a node keeps of a peer: a link end on each of the two bearers, as far as they are made, the contact numbers of the two nodes, and the
-/// message that is begun of the fragments that were taken on either link.
+/// What a node keeps of a peer: a link end on each of the two bearers, as far as they are made, the contact numbers of
+/// the two nodes, and the message that is begun of the fragments that were taken on either link.
 ///
-/// The node is in contact with the peer exactly while a link is up. Messages go over the active link, which is the up link of the higher
-/// priority: bearer 0's, where that is up. When a link goes down while the other one is up, that one gets what it leaves, and the end is held
-/// until all of that is acknowledged. When bearer 0's link goes up while bearer 1's is up, it takes the traffic over. (This project's profile.)
+/// The node is in contact with the peer exactly while a link is up. Messages go over the active link, which is the up
+/// link of the higher priority: bearer 0's, where that is up. When a link goes down while the other one is up, that one
+/// gets what it leaves, and the end is held until all of that is acknowledged. When bearer 0's link goes up while
+/// bearer 1's is up, it takes the traffic over. (This project's profile.)
 #[derive(Drop)]
 pub struct Pair {
     /// Seen from bearer 0's link.
@@ -129,8 +130,8 @@ impl Pair {
         self.ends.face(0);
     }
 
-    /// A bearer, 0 or 1, is cut: its link goes down, where it is up. The other link gets what it leaves, or the contact ends. Nothing is
-    /// sent on the bearer.
+    /// A bearer, 0 or 1, is cut: its link goes down, where it is up. The other link gets what it leaves, or the contact
+    /// ends. Nothing is sent on the bearer.
     ///
     /// # Errors
     ///
@@ -172,8 +173,8 @@ impl Pair {
         Ok(event)
     }
 
-    /// A tick of both links, bearer 0's with all that follows and then bearer 1's: as [`tipc_link::Link::tick`]. `shown` fills the
-    /// broadcast fields of STATE.
+    /// A tick of both links, bearer 0's with all that follows and then bearer 1's: as [`tipc_link::Link::tick`].
+    /// `shown` fills the broadcast fields of STATE.
     ///
     /// # Errors
     ///
@@ -211,8 +212,9 @@ impl Pair {
         Ok(event)
     }
 
-    /// Puts packets on the active link, and sends those that the window of 50 has room for: as [`tipc_link::Link::send`]. It needs a
-    /// contact. Each packet is payload, name items or a fragment, of at most 1,452 bytes.
+    /// Puts packets on the active link, and sends those that the window of 50 has room for: as
+    /// [`tipc_link::Link::send`]. It needs a contact. Each packet is payload, name items or a fragment, of at most
+    /// 1,452 bytes.
     ///
     /// # Errors
     ///
@@ -245,13 +247,13 @@ impl Pair {
 
     /// Takes a packet that arrived on a bearer, 0 or 1, that has a link end.
     ///
-    /// A tunnel packet is opened as it is taken: an original of the other link's present session takes that link down, and then the packet
-    /// inside is given to the record of the other link.
+    /// A tunnel packet is opened as it is taken: an original of the other link's present session takes that link down,
+    /// and then the packet inside is given to the record of the other link.
     ///
     /// # Errors
     ///
-    /// Where memory runs out. Nothing is changed then. A RESET or an ACTIVATE that shows a contact number below the highest seen is passed
-    /// over, and takes none.
+    /// Where memory runs out. Nothing is changed then. A RESET or an ACTIVATE that shows a contact number below the
+    /// highest seen is passed over, and takes none.
     pub fn arrive(
         &mut self,
         alloc: Global,
@@ -280,12 +282,13 @@ impl Pair {
         Ok(PairArrival { changes, outcome })
     }
 
-    /// What a packet that arrives on a bearer, 0 or 1, will make of the pair: as [`Pair::arrive`], but nothing is changed yet, which
-    /// [`Pair::commit`] does.
+    /// What a packet that arrives on a bearer, 0 or 1, will make of the pair: as [`Pair::arrive`], but nothing is
+    /// changed yet, which [`Pair::commit`] does.
     ///
     /// # Errors
     ///
-    /// Where memory runs out. A RESET or an ACTIVATE that shows a contact number below the highest seen is passed over, and takes none.
+    /// Where memory runs out. A RESET or an ACTIVATE that shows a contact number below the highest seen is passed over,
+    /// and takes none.
     pub fn prepare(
         &self,
         alloc: Global,
@@ -336,8 +339,9 @@ impl Pair {
         PairArrival { changes, outcome }
     }
 
-    /// Sends the STATE that is due after an arrival on a bearer, 0 or 1: as [`tipc_link::Link::answer`]. The arrival took so many broadcast
-    /// packets, and `due` says that it asks for a STATE by the broadcast. Nothing is sent where the bearer's link isn't up.
+    /// Sends the STATE that is due after an arrival on a bearer, 0 or 1: as [`tipc_link::Link::answer`]. The arrival
+    /// took so many broadcast packets, and `due` says that it asks for a STATE by the broadcast. Nothing is sent where
+    /// the bearer's link isn't up.
     pub fn answer(
         &mut self,
         alloc: Global,
@@ -357,8 +361,8 @@ impl Pair {
         self.ends.face(0);
     }
 
-    /// It is seen from bearer 0's link, and what is true of every pair is true of it: an end is held only where the other link is up and has
-    /// a tunnel packet. It does nothing.
+    /// It is seen from bearer 0's link, and what is true of every pair is true of it: an end is held only where the
+    /// other link is up and has a tunnel packet. It does nothing.
     pub fn sound(&self)
         ensures first { self.now.bearer ≡ 0 }
         ensures pair { IsPairOfEnds self.now }
@@ -367,7 +371,8 @@ impl Pair {
         self.ends.sound();
     }
 
-    /// The contact: the node's own contact number, and the peer's. None exactly where the node isn't in contact with the peer.
+    /// The contact: the node's own contact number, and the peer's. None exactly where the node isn't in contact with
+    /// the peer.
     pub fn contact(&self) -> Option<(u64, u64)>
         ensures { result ≡ contact_between self.now }
     {
@@ -401,8 +406,8 @@ impl Pair {
         load_of(self.ends.end_on(bearer))
     }
 
-    /// How many packets each direction numbered in the present session of a bearer, 0 or 1, or the last one: the own ones exactly, and the
-    /// peer's as taken. None exactly where there is no link end, or it had no session.
+    /// How many packets each direction numbered in the present session of a bearer, 0 or 1, or the last one: the own
+    /// ones exactly, and the peer's as taken. None exactly where there is no link end, or it had no session.
     pub fn numbered(&self, bearer: u8) -> Option<(u64, u64)>
         requires { bearer ≤ 1 }
         ensures { result ≡ numbered_of (facing bearer self.now).near }
@@ -410,8 +415,8 @@ impl Pair {
         numbered_of(self.ends.end_on(bearer))
     }
 
-    /// The own epoch of the present session of a bearer, 0 or 1, or of the last one, and how many packets were numbered in it. None exactly
-    /// where there is no link end, or it had no session.
+    /// The own epoch of the present session of a bearer, 0 or 1, or of the last one, and how many packets were numbered
+    /// in it. None exactly where there is no link end, or it had no session.
     pub fn last_count(&self, bearer: u8) -> Option<(u64, u64)>
         requires { bearer ≤ 1 }
         ensures { result ≡ last_count_of (facing bearer self.now).near }

@@ -28,8 +28,8 @@ use tipc_types::{BroadcastState, NoMemory, Taken, Why};
 pub(crate) enum Way {
     /// It shows a contact number below the highest seen, and is passed over.
     Passes,
-    /// It takes no link up or down and brings nothing through a tunnel: what its link makes of it, and the message that is begun then.
-    /// Nothing else of the pair is copied.
+    /// It takes no link up or down and brings nothing through a tunnel: what its link makes of it, and the message that
+    /// is begun then. Nothing else of the pair is copied.
     Quiet(Arriving, Reassembly),
     /// Any other packet: the pair after it, seen from the link that it arrives on, and what is told of it.
     Whole(Box<LinkEnds>, Leaving),
@@ -125,8 +125,8 @@ impl LinkEnds {
         Ok((Way::Whole(Box::new(alloc, next)?, event), given))
     }
 
-    /// What a packet will make of the link of a bearer, where it takes no link up or down and brings nothing through a tunnel. None for any
-    /// other packet.
+    /// What a packet will make of the link of a bearer, where it takes no link up or down and brings nothing through a
+    /// tunnel. None for any other packet.
     fn prepare_quietly(
         &self,
         alloc: Global,
@@ -172,7 +172,8 @@ impl LinkEnds {
         }
     }
 
-    /// Takes a packet on a bearer, as [`LinkEnds::prepare`] told of it when the pair was as it is. What it tells and sends is given back.
+    /// Takes a packet on a bearer, as [`LinkEnds::prepare`] told of it when the pair was as it is. What it tells and
+    /// sends is given back.
     pub(crate) fn commit(
         &mut self,
         alloc: Global,
@@ -285,7 +286,8 @@ impl LinkEnds {
         self.reassembly = reassembly;
     }
 
-    /// How the contact number that a packet shows stands to the highest seen. One that shows none stands as the highest.
+    /// How the contact number that a packet shows stands to the highest seen. One that shows none stands as the
+    /// highest.
     fn standing_with(&self, header: &Header) -> Standing
         ensures { result ≡ standing_with self.now header.now }
     {

@@ -78,8 +78,8 @@ fn tunnel_of(
     )
 }
 
-/// The run of a session's unacknowledged packets, which this node sent: for each in order a tunnel packet, and for a tunnel packet a
-/// placeholder. A run of none is one tunnel packet, which carries nothing. (This project's profile.)
+/// The run of a session's unacknowledged packets, which this node sent: for each in order a tunnel packet, and for a
+/// tunnel packet a placeholder. A run of none is one tunnel packet, which carries nothing. (This project's profile.)
 ///
 /// # Errors
 ///

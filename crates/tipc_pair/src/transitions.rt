@@ -2,8 +2,8 @@
 
 use tipc_types::{Cause, LinkState, Sequence};
 
-/// A link of a pair went up or down, or the contact began or ended. A contact is two contact numbers: the node's own, then the
-/// peer's. (This project's profile.)
+/// A link of a pair went up or down, or the contact began or ended. A contact is two contact numbers: the node's own,
+/// then the peer's. (This project's profile.)
 #[derive(Clone, Copy, Debug, PartialEq, Eq)]
 pub enum Transition {
     /// A link went up.

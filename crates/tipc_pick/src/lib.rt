@@ -1,5 +1,5 @@
-//! Choosing one of several, for messages that are sent by name: a closure that the program gives is asked at each turn, and
-//! whatever it is, its choice is one of those that there are.
+//! Choosing one of several, for messages that are sent by name: a closure that the program gives is asked at each turn,
+//! and whatever it is, its choice is one of those that there are.
 #![tactic(auto)]
 
 mod chooser;

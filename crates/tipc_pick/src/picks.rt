@@ -5,8 +5,8 @@ ghost use Rattle.std.specs.Prelude.{◌≡◌, ◌<◌, ◌≤◌, ◌^◌, ℕ}
 /// The most things of which one is chosen: 32 nodes with 1,024 publications each. (This project's profile.)
 pub const MOST_CHOICES: u64 = 32_768;
 
-/// What chooses one of several: for each turn below 2^64 and each count from 1 to 32,768 it gives one number, which is below
-/// the count.
+/// What chooses one of several: for each turn below 2^64 and each count from 1 to 32,768 it gives one number, which is
+/// below the count.
 ///
 /// The fact goes with the type, so that a value which holds a pick, also one behind a lock, can say of choices of the
 /// past that the pick gave them.

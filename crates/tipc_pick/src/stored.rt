@@ -9,8 +9,8 @@ use std::boxed::Box;
 /// A closure of the caller's that takes a turn and a count.
 pub type PickClosure = Box<dyn Fn(u64, u64) -> u64 + Send + Sync>;
 
-/// A closure beside the fact that makes it a pick: for every turn below 2^64 and every count from 1 to 32,768 it may be called
-/// and has one answer, which is below the count.
+/// A closure beside the fact that makes it a pick: for every turn below 2^64 and every count from 1 to 32,768 it may be
+/// called and has one answer, which is below the count.
 #[derive(Drop)]
 pub struct StoredPick {
     pick: PickClosure,

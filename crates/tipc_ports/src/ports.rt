@@ -16,8 +16,8 @@ pub const MOST_MADE: u32 = 1_048_575;
 
 /// The ports of a node in one boot: those that are there, in the order in which they were made, and how many were made.
 ///
-/// A port that was closed doesn't come back: its number isn't used again in the boot. Numbers of another boot are other ones,
-/// as long as no 4,096 boots lie between.
+/// A port that was closed doesn't come back: its number isn't used again in the boot. Numbers of another boot are other
+/// ones, as long as no 4,096 boots lie between.
 #[derive(Drop)]
 pub struct Ports {
     boot: u32,
@@ -82,12 +82,13 @@ impl Ports {
         }
     }
 
-    /// Makes a port, and answers its number: `(boot - 1) mod 4096 * 1048576` and how many were made with it. (This project's
-    /// profile.)
+    /// Makes a port, and answers its number: `(boot - 1) mod 4096 * 1048576` and how many were made with it. (This
+    /// project's profile.)
     ///
     /// # Errors
     ///
-    /// `Full` exactly where 256 ports are there or 1,048,575 were made in this boot; else `NoMemory` where memory runs out.
+    /// `Full` exactly where 256 ports are there or 1,048,575 were made in this boot; else `NoMemory` where memory runs
+    /// out.
     pub fn make(&mut self) -> Result<u32, PortFault>
         ensures number { IfOk result (λ port. port ≡ port_number self.old.boot (self.old.made + 1)) }
         ensures ok { IfOk result (λ port. self.new ≡
@@ -129,8 +130,8 @@ impl Ports {
         self.present.contains(&port)
     }
 
-    /// The ports that are there, in the order in which they were made, which is that of their numbers. Each was made in this
-    /// boot.
+    /// The ports that are there, in the order in which they were made, which is that of their numbers. Each was made in
+    /// this boot.
     pub fn as_slice(&self) -> &[u32]
         ensures ports { result.now ≡ self.now.present }
         ensures present { ArePresent self.now.boot self.now.made self.now.present }

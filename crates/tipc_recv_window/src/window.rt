@@ -43,8 +43,8 @@ impl Model for RecvWindow {
     ghost invariant = { λ w. IsReceiving (record { wanted = w.wanted; held = w.held.items }) };
 }
 
-/// What a numbered packet will make of a receive window, and the memory that it takes: [`RecvWindow::prepare`] tells it, and
-/// [`RecvWindow::commit`] does it.
+/// What a numbered packet will make of a receive window, and the memory that it takes: [`RecvWindow::prepare`] tells
+/// it, and [`RecvWindow::commit`] does it.
 #[derive(Drop)]
 pub struct WindowArrival {
     /// The position that the window wants.
@@ -159,8 +159,8 @@ impl RecvWindow {
         self.first_held().unwrap_or(0) as u16
     }
 
-    /// How far a next number that the peer shows is ahead of the wanted one: 0 where it is more than 32,767 ahead, and so
-    /// behind. (This project's profile.)
+    /// How far a next number that the peer shows is ahead of the wanted one: 0 where it is more than 32,767 ahead, and
+    /// so behind. (This project's profile.)
     #[tactic(auto, unfolding(crate::specs::Receiving::ahead))]
     pub fn ahead(&self, number: u16) -> u16
         ensures value { result ≡ ahead self.now number }
@@ -174,8 +174,8 @@ impl RecvWindow {
         }
     }
 
-    /// Whether a next number that the peer shows is 1 to 50 past the wanted one: the peer has sent more than was taken. (This
-    /// project's profile.)
+    /// Whether a next number that the peer shows is 1 to 50 past the wanted one: the peer has sent more than was taken.
+    /// (This project's profile.)
     pub fn shows_more(&self, number: u16) -> bool
         ensures { result ≡ shows_more self.now number }
     {
@@ -183,8 +183,8 @@ impl RecvWindow {
         0 < past && past <= WINDOW
     }
 
-    /// How many packets are missing where none is held, up to the next position that the peer showed, as far as a window
-    /// reaches.
+    /// How many packets are missing where none is held, up to the next position that the peer showed, as far as a
+    /// window reaches.
     fn missing(&self, shown: u64) -> u16
         ensures value { result ≡ missing self.now shown }
         ensures within { result ≤ window_size }
@@ -197,8 +197,8 @@ impl RecvWindow {
         }
     }
 
-    /// How many packets are missing: up to the first that is held, or up to the next position that the peer showed. At most 50.
-    /// (TIPC 2.0 draft; what was shown: this project's profile.)
+    /// How many packets are missing: up to the first that is held, or up to the next position that the peer showed. At
+    /// most 50. (TIPC 2.0 draft; what was shown: this project's profile.)
     #[tactic(auto, unfolding(crate::specs::Receiving::gap_to))]
     pub fn gap_to(&self, shown: u64) -> u16
         ensures value { result ≡ gap_to self.now shown }
@@ -246,8 +246,8 @@ impl RecvWindow {
         self.held.pop_front()?
     }
 
-    /// What a packet will make of the window, where the wanted one isn't held, and the packets that can be taken with it, in
-    /// order: the wanted one and those behind it, up to the first that isn't held. Nothing is changed yet:
+    /// What a packet will make of the window, where the wanted one isn't held, and the packets that can be taken with
+    /// it, in order: the wanted one and those behind it, up to the first that isn't held. Nothing is changed yet:
     /// [`RecvWindow::commit`] does it.
     ///
     /// # Errors
@@ -278,8 +278,8 @@ impl RecvWindow {
         }
     }
 
-    /// Does what a packet makes of the window, as [`RecvWindow::prepare`] told of it when the window was as it is: what can be
-    /// taken is, or the packet is held. It takes no memory.
+    /// Does what a packet makes of the window, as [`RecvWindow::prepare`] told of it when the window was as it is: what
+    /// can be taken is, or the packet is held. It takes no memory.
     pub fn commit(&mut self, arrival: WindowArrival)
         requires free { next_of self.old ≡ None }
         requires arrival { (packet : Taken) × (arrival ≡ coming self.old packet) }

@@ -17,8 +17,9 @@ pub struct Sent {
     pub to: To,
     /// Its bytes.
     pub frame: Bytes,
-    /// The contact in which its sender was with the receiver before the event that sent it: its own number, and the receiver's. Where it
-    /// was in none, the contact numbers that it had after the event: its own, and the highest that the receiver had shown.
+    /// The contact in which its sender was with the receiver before the event that sent it: its own number, and the
+    /// receiver's. Where it was in none, the contact numbers that it had after the event: its own, and the highest that
+    /// the receiver had shown.
     pub contact: (u64, u64),
     /// How many packets its sender had numbered after the event, on this bearer, under the first epoch of the envelope.
     pub numbered: u64,

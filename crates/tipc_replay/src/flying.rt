@@ -245,8 +245,8 @@ fn sender_number(sent: &Sent) -> u8
     from
 }
 
-/// How many packets were numbered since a frame was sent to node `n` on a bearer, in that bearer's session of two epochs, the sender's and the
-/// receiver's: the larger number of its two directions.
+/// How many packets were numbered since a frame was sent to node `n` on a bearer, in that bearer's session of two
+/// epochs, the sender's and the receiver's: the larger number of its two directions.
 fn session_age(
     members: &[Option<Member>],
     sent: &Sent,
@@ -354,9 +354,9 @@ fn frame_for(air: &Air, node: u8, bearer: u8, place: u64) -> Option<&Sent>
     Some(sent)
 }
 
-/// The frame of that place in a bearer's air that arrives at a node, or the answer where none does: NoFrame exactly where there is
-/// none for that node, TooOld exactly where its age is more than 30,000 (`age_of`): the largest count of numbers, of those that the frame
-/// speaks of, that were used since it was sent.
+/// The frame of that place in a bearer's air that arrives at a node, or the answer where none does: NoFrame exactly
+/// where there is none for that node, TooOld exactly where its age is more than 30,000 (`age_of`): the largest count of
+/// numbers, of those that the frame speaks of, that were used since it was sent.
 #[tactic(auto, unfolding(crate::specs::Due::unarrived))]
 pub fn find<'a>(
     members: &[Option<Member>],
@@ -387,8 +387,8 @@ pub fn find<'a>(
 
 // ---- frames that leave
 
-/// The contact that stands beside a frame from node `a` to a node: that in which it was before, where it may have ended, or else its contact
-/// numbers.
+/// The contact that stands beside a frame from node `a` to a node: that in which it was before, where it may have
+/// ended, or else its contact numbers.
 fn told_in(members: &[Option<Member>], met: &Met, a: u8, to: u8) -> (u64, u64)
     ensures { result ≡ unwrap_or (met_in met.now to) (numbers_at members.now a to) }
 {
@@ -459,7 +459,8 @@ fn release_one(
     air.push(bearer, sent)
 }
 
-/// Brings frames that leave node `a` into the air, in order, up to one that finds no memory. It answers whether there was one.
+/// Brings frames that leave node `a` into the air, in order, up to one that finds no memory. It answers whether there
+/// was one.
 fn release(
     members: &[Option<Member>],
     met: &Met,
@@ -481,8 +482,8 @@ fn release(
     false
 }
 
-/// Brings what left node `a` in an event into the air. Before it the node was in these contacts, of those that may end in it. It answers
-/// whether a frame was lost for want of memory.
+/// Brings what left node `a` in an event into the air. Before it the node was in these contacts, of those that may end
+/// in it. It answers whether a frame was lost for want of memory.
 #[tactic(auto, using(crate::proofs::frames::Released::emits_boxed))]
 pub fn emit(members: &[Option<Member>], met: &Met, air: &mut Air, a: u8, out: Outbox) -> bool
     requires number { (1 ≤ a) × (a ≤ 32) }

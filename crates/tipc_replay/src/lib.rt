@@ -1,5 +1,5 @@
-//! Nodes over all their boots and the air between them: everything that may happen to them, by any caller and any chooser, and the promise that
-//! holds of them whatever is done.
+//! Nodes over all their boots and the air between them: everything that may happen to them, by any caller and any
+//! chooser, and the promise that holds of them whatever is done.
 //!
 //! - The whole: `replays` (nodes and the air between them, and what may happen to them), `events` (what that is).
 //! - Its parts: `members` (a node over all its boots, with their journals), `air` (frames that were sent, and frames that

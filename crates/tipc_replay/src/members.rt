@@ -33,7 +33,8 @@ use tipc_outside::Outbox;
 use tipc_pick::{Chooser, Pick};
 use tipc_types::{Addr, Answer, By, EventNote, Flow, LinkState, NoMemory, Publication};
 
-/// How many packets were numbered in sessions that are over, by the peer's number, the bearer, and the node's own epoch.
+/// How many packets were numbered in sessions that are over, by the peer's number, the bearer, and the node's own
+/// epoch.
 type Counts = IndexMap<(u8, u8, u64), u64>;
 
 /// How many numbers the broadcast link used in boots that are over, by boot.
@@ -68,7 +69,8 @@ impl Model for Member {
     ghost invariant = { λ m. m.calls ≤ length m.node.journal };
 }
 
-/// What is noted of a session: the peer's number, the bearer, the node's own epoch, and how many packets it has numbered.
+/// What is noted of a session: the peer's number, the bearer, the node's own epoch, and how many packets it has
+/// numbered.
 type Tally = ((u8, u8, u64), u64);
 
 /// Notes how many packets a session has numbered. There is room for one more number.
@@ -86,8 +88,8 @@ fn note(counts: &mut Counts, last: Option<Tally>)
     }
 }
 
-/// The own epoch of the session with a peer on a bearer, or of the last one, and how many packets were numbered in it: None exactly where
-/// there was none.
+/// The own epoch of the session with a peer on a bearer, or of the last one, and how many packets were numbered in it:
+/// None exactly where there was none.
 fn last_count(node: &Node, peer: u8, bearer: u8) -> Option<(u64, u64)>
     ensures { result ≡ last_count_of (link_in node.now peer bearer) }
 {
@@ -450,7 +452,8 @@ impl Member {
         Ok(answer)
     }
 
-    /// Is restarted: its journal is kept, its sessions and the numbers of its broadcast link are noted, and it begins its next boot.
+    /// Is restarted: its journal is kept, its sessions and the numbers of its broadcast link are noted, and it begins
+    /// its next boot.
     pub fn restart(&mut self, alloc: Global) -> Result<Answer, NodeFault>
         requires settled { (n : ℕ) × IsSettledAt self.old n }
         requires next { self.old.node.boot < 4294967295 }
@@ -484,8 +487,8 @@ impl Member {
         over_with(&self.node, sender_of(frame)?, bearer)
     }
 
-    /// A frame arrives on a bearer, which is the one at that place of the bearer's air. The last session with its sender there is
-    /// noted where the link is down, since a new one may begin in its place.
+    /// A frame arrives on a bearer, which is the one at that place of the bearer's air. The last session with its
+    /// sender there is noted where the link is down, since a new one may begin in its place.
     pub fn arrive(
         &mut self,
         alloc: Global,

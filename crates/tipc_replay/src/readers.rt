@@ -21,7 +21,8 @@ use tipc_journal::Journal;
 use tipc_node::Node;
 use tipc_types::{Addr, LinkState, List, NoMemory, PeerLinks, Publication, Sequence};
 
-/// How many messages of one contact were accepted at one node and delivered at the other, each at most the last number of 64 bits.
+/// How many messages of one contact were accepted at one node and delivered at the other, each at most the last number
+/// of 64 bits.
 #[derive(Clone, Copy, Debug, PartialEq, Eq)]
 pub struct FlowCounts {
     /// The messages that the one node accepted for the other.
@@ -236,8 +237,8 @@ impl Replay {
         self.lost
     }
 
-    /// How many messages node `a` accepted for node `b` in the contact in which it is with it, and how many of them were delivered, in all
-    /// boots: None exactly where it is in none. A count stops at the last number of 64 bits.
+    /// How many messages node `a` accepted for node `b` in the contact in which it is with it, and how many of them
+    /// were delivered, in all boots: None exactly where it is in none. A count stops at the last number of 64 bits.
     pub fn flow(&self, a: u8, b: u8) -> Option<FlowCounts>
         requires { (1 ≤ a) × (a ≤ 32) × (1 ≤ b) × (b ≤ 32) }
         ensures { result ≡ flow_of self.now.members a b }

@@ -23,14 +23,15 @@ use tipc_outside::Outbox;
 use tipc_pick::{Chooser, Pick};
 use tipc_types::{Answer, By, NoMemory};
 
-/// Why an event didn't happen: the journal of its node has no room for the call, or memory ran out. Nothing is changed then.
+/// Why an event didn't happen: the journal of its node has no room for the call, or memory ran out. Nothing is changed
+/// then.
 pub type ReplayFault = NodeFault;
 
 /// The numbers of nodes are from 1 to 32.
 const NUMBERS: usize = 33;
 
-/// Nodes over all their boots and the air between them, which is every frame that was ever sent, of which any may arrive at any time. Events are
-/// made with any caller, call number and stamp, and with any chooser.
+/// Nodes over all their boots and the air between them, which is every frame that was ever sent, of which any may
+/// arrive at any time. Events are made with any caller, call number and stamp, and with any chooser.
 #[derive(Drop)]
 pub struct Replay {
     pub(crate) members: Vec<Option<Member>>,
@@ -303,8 +304,8 @@ impl Replay {
         let _ = &self.members;
     }
 
-    /// Tells what each event keeps of the nodes and the air between them, from which all that [`Replay::good`] tells follows. It does
-    /// nothing.
+    /// Tells what each event keeps of the nodes and the air between them, from which all that [`Replay::good`] tells
+    /// follows. It does nothing.
     pub fn steady(&self)
         ensures { IsSteady self.now.members self.now.air }
     {
@@ -341,13 +342,15 @@ impl Replay {
         Ok(())
     }
 
-    /// Lets an event happen, as the call of that caller, call number and stamp where it is one that is recorded. The clause `happened` says exactly
-    /// what becomes of the nodes and the air, and what the answer is. A message by name that was sent went to the match that the chooser gives
-    /// for its turn, and the chooser goes to its next turn in such a step alone: the clause `chose` says so.
+    /// Lets an event happen, as the call of that caller, call number and stamp where it is one that is recorded. The
+    /// clause `happened` says exactly what becomes of the nodes and the air, and what the answer is. A message by name
+    /// that was sent went to the match that the chooser gives for its turn, and the chooser goes to its next turn in
+    /// such a step alone: the clause `chose` says so.
     ///
     /// # Errors
     ///
-    /// JournalFull exactly where the event is recorded and the journal of its node has no room for it, else NoMemory. Nothing is changed then.
+    /// JournalFull exactly where the event is recorded and the journal of its node has no room for it, else NoMemory.
+    /// Nothing is changed then.
     pub fn step<P: Pick>(
         &mut self,
         alloc: Global,
@@ -373,7 +376,8 @@ impl Replay {
         Ok(happened?.answer)
     }
 
-    /// Lets an event happen, as [`Replay::step`] does, and says besides whether it counts as an event and whether it lost a frame.
+    /// Lets an event happen, as [`Replay::step`] does, and says besides whether it counts as an event, and whether a
+    /// frame was lost in it for want of memory, which no clause tells.
     ///
     /// # Errors
     ///

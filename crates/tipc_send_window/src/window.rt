@@ -176,13 +176,13 @@ impl SendWindow {
         self.stored.len() - self.released
     }
 
-    /// Puts packets behind all others, to wait, unless too many wait already: as [`SendWindow::put`]. The offer may pass the
-    /// limit. (Limits: this project's profile.)
+    /// Puts packets behind all others, to wait, unless too many wait already: as [`SendWindow::put`]. The offer may
+    /// pass the limit. (Limits: this project's profile.)
     ///
     /// # Errors
     ///
-    /// Congested exactly where at least `limit` packets wait, with the counts of the packets unacknowledged and waiting; else
-    /// NoMemory. Either changes nothing.
+    /// Congested exactly where at least `limit` packets wait, with the counts of the packets unacknowledged and
+    /// waiting; else NoMemory. Either changes nothing.
     pub fn offer(&mut self, pieces: Pieces, limit: u32) -> Result<(), OfferFault>
         ensures ok { OnOk result ((length self.old.waiting < limit) × (self.new ≡ offered self.old pieces)) }
         ensures congested { limit ≤ length self.old.waiting →
@@ -206,8 +206,8 @@ impl SendWindow {
     ///
     /// # Errors
     ///
-    /// Where memory runs out. More than 4,294,967,295 waiting packets, and positions past 2^62, count as that. Nothing is
-    /// changed then.
+    /// Where memory runs out. More than 4,294,967,295 waiting packets, and positions past 2^62, count as that. Nothing
+    /// is changed then.
     pub fn put(&mut self, pieces: Pieces) -> Result<(), NoMemory>
         ensures ok { OnOk result (self.new ≡ offered self.old pieces) }
         ensures err { OnErr result (self.new ≡ self.old) }
@@ -300,8 +300,8 @@ impl SendWindow {
         Pieces::from_vec(mem::replace(&mut self.waiting, empty).into_vec())
     }
 
-    /// Gives every packet: the unacknowledged ones in order, beside their numbers, and those that wait. Those were never numbered. It
-    /// takes no memory.
+    /// Gives every packet: the unacknowledged ones in order, beside their numbers, and those that wait. Those were
+    /// never numbered. It takes no memory.
     pub fn hand_over(&mut self) -> (KeptList, Pieces)
         ensures unacked { result.0 ≡ kept_of self.old }
         ensures waiting { result.1 ≡ self.old.waiting }

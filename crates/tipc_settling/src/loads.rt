@@ -13,9 +13,10 @@ ghost use Rattle.tipc_node.specs.Nodes.{NodeState};
 ghost use Rattle.tipc_node.specs.Sockets.{kept_answer};
 ghost use Rattle.tipc_settling.specs.Loads.{AddsNothing, IsCalm, PutsNothing};
 
-/// By an arrival or a tick that tells nothing of links and contacts no more is under way than before: each packet that isn't acknowledged yet
-/// counts once, a message that was accepted and isn't delivered three times, and one that came back once. So a message that is delivered makes room
-/// for its return and for the packet of that. (This project's profile.)
+/// By an arrival or a tick that tells nothing of links and contacts no more is under way than before: each packet that
+/// isn't acknowledged yet counts once, a message that was accepted and isn't delivered three times, and one that came
+/// back once. So a message that is delivered makes room for its return and for the packet of that. (This project's
+/// profile.)
 pub fn calm_events_add_nothing()
     ensures arrives { (n n' : NodeState) (by : By) (bearer number : ℕ) (bytes : List ℕ) (frames : List Outgoing)
         (answered : Arrival) → Arrives n n' by bearer number bytes frames answered
@@ -25,7 +26,8 @@ pub fn calm_events_add_nothing()
         → CallTurn n n' by Tick [] (kept_answer answered) frames → IsCalm n n' → AddsNothing n n' }
 {}
 
-/// So it is with the packets that were ever put on links, whether they are acknowledged by now or not. (This project's profile.)
+/// So it is with the packets that were ever put on links, whether they are acknowledged by now or not. (This project's
+/// profile.)
 pub fn calm_events_put_nothing()
     ensures arrives { (n n' : NodeState) (by : By) (bearer number : ℕ) (bytes : List ℕ) (frames : List Outgoing)
         (answered : Arrival) → Arrives n n' by bearer number bytes frames answered

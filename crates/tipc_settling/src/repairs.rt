@@ -17,28 +17,29 @@ ghost use Rattle.tipc_node.specs.Sockets.{kept_answer};
 ghost use Rattle.tipc_settling.specs.Loads.{IsCalm};
 ghost use Rattle.tipc_settling.specs.Repairs.{NodesHear, SaysStateTo, SessionsHear};
 
-/// By a tick that tells nothing of links and contacts each link end of the node that is up tells its peer the STATE of its session as it stood.
-/// (TIPC 2.0 draft: link supervision; a STATE at each tick is this project's profile.)
+/// By a tick that tells nothing of links and contacts each link end of the node that is up tells its peer the STATE of
+/// its session as it stood. (TIPC 2.0 draft: link supervision; a STATE at each tick is this project's profile.)
 pub fn ticks_tell_states()
     ensures { (n n' : NodeState) (by : By) (frames : List Outgoing) (answered : Answer)
         → Performs n by Tick n' frames answered → CallTurn n n' by Tick [] (kept_answer answered) frames
         → IsCalm n n' → (peer bearer : ℕ) → bearer ≤ 1 → SaysStateTo n n' frames peer bearer }
 {}
 
-/// A link end that is up hears each STATE and each numbered packet of its session: the session goes on from what that makes of it, and the packets
-/// that a gap asks for are sent again; in an arrival by which nothing is told of links and contact, and whose tunnel packet names no epoch above
-/// that of the record which it is counted in. (TIPC 2.0 draft.)
+/// A link end that is up hears each STATE and each numbered packet of its session: the session goes on from what that
+/// makes of it, and the packets that a gap asks for are sent again; in an arrival by which nothing is told of links and
+/// contact, and whose tunnel packet names no epoch above that of the record which it is counted in. (TIPC 2.0 draft.)
 pub fn packets_of_a_session_are_heard()
     ensures { SessionsHear }
 {}
 
-/// So it is at a node: what arrives of a peer's session, where the node's end is up in it, is heard, whatever comes of its messages. (TIPC 2.0 draft.)
+/// So it is at a node: what arrives of a peer's session, where the node's end is up in it, is heard, whatever comes of
+/// its messages. (TIPC 2.0 draft.)
 pub fn nodes_hear_their_peers()
     ensures { NodesHear }
 {}
 
-/// Nothing stops a link packet of another node that comes on a mended bearer, in a frame of its size, where the node has a link end to its sender on
-/// that bearer. (This project's profile.)
+/// Nothing stops a link packet of another node that comes on a mended bearer, in a frame of its size, where the node
+/// has a link end to its sender on that bearer. (This project's profile.)
 pub fn nothing_stops_a_peer()
     ensures { (n : NodeState) (bearer : ℕ) (bytes : List ℕ) (peer es er : ℕ) (p : Fields) → IsFrom peer bytes es er p
         → kind_in bytes ≡ Links → is_mended_on n.mended bearer ≡ true → 16 ≤ length bytes

@@ -100,9 +100,9 @@ pub fn steps_tell_of_sockets()
         AreTold own (J ++ step_entries st) later [] (with_watchers s (passed s.watchers)) }
 {}
 
-/// What the journal says of a call on subscriptions is what the sockets hold: which are there, how many are, and how many
-/// were made; the next event of one is the first that wasn't taken; and those that are due in a tick, whatever the tick
-/// made before that isn't of subscriptions, are those that time out in it.
+/// What the journal says of a call on subscriptions is what the sockets hold: which are there, how many are, and how
+/// many were made; the next event of one is the first that wasn't taken; and those that are due in a tick, whatever the
+/// tick made before that isn't of subscriptions, are those that time out in it.
 pub fn subscriptions_are_told()
     ensures there { (own : Addr) (J : List Entry) (d : Due) (s : SocketTable) (number : ℕ) → AreTold own J d [] s →
         is_among (subscriptions J) number ≡ is_some (of_number s.watchers number) }

@@ -365,8 +365,8 @@ impl Sockets {
         Ok(Fate::Queued(ports))
     }
 
-    /// What a multicast will make of the sockets: each own port, rising, that has room and a publication that overlaps the
-    /// range which it names, of cluster or zone scope where it arrived, will have a copy. Nothing is changed yet:
+    /// What a multicast will make of the sockets: each own port, rising, that has room and a publication that overlaps
+    /// the range which it names, of cluster or zone scope where it arrived, will have a copy. Nothing is changed yet:
     /// [`Sockets::spread`] does it. (TIPC 2.0 draft; limits: this project's profile.)
     pub fn spreading(
         &self,
@@ -534,9 +534,9 @@ impl Sockets {
     ///
     /// # Errors
     ///
-    /// `BadRange` exactly where the lower bound is above the upper; else `BadFilter` exactly where the filter is neither
-    /// 1 nor 2; else `Full` exactly where 256 subscriptions are there or 4,294,967,295 were made in this boot; else
-    /// `NoMemory` where memory runs out. An error changes nothing.
+    /// `BadRange` exactly where the lower bound is above the upper; else `BadFilter` exactly where the filter is
+    /// neither 1 nor 2; else `Full` exactly where 256 subscriptions are there or 4,294,967,295 were made in this boot;
+    /// else `NoMemory` where memory runs out. An error changes nothing.
     pub fn subscribe(&mut self, alloc: Global, s: Subscription) -> Result<u32, TopologyFault>
         ensures number { IfOk result (λ number. number ≡ self.old.watchers.made + 1) }
         ensures ok { OnOk result (self.new ≡ with_watchers self.old (subscribed s self.old.names self.old.watchers)) }
@@ -587,8 +587,8 @@ impl Sockets {
         self.topology.due(alloc)
     }
 
-    /// Lets a tick pass for the subscriptions. Those that are due time out, and are told so as the last of their events.
-    /// It takes no memory.
+    /// Lets a tick pass for the subscriptions. Those that are due time out, and are told so as the last of their
+    /// events. It takes no memory.
     pub fn pass(&mut self)
         ensures ticked { self.new ≡
             with_watchers self.old (with_kept self.old.watchers (map ticked self.old.watchers.kept)) }

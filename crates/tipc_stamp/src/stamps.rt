@@ -87,8 +87,8 @@ impl Stamps {
         Ok((Stamps { table }, dealt))
     }
 
-    /// Draws the next stamp. It is greater than those that this seat drew, and not below what it saw. It takes no memory,
-    /// and waits for nobody.
+    /// Draws the next stamp. It is greater than those that this seat drew, and not below what it saw. It takes no
+    /// memory, and waits for nobody.
     ///
     /// # Errors
     ///
@@ -107,8 +107,8 @@ impl Stamps {
         Ok(self.table.shared.fetch_add::<Draw>(&mut seat.seat, 0, 1))
     }
 
-    /// The least number that isn't drawn yet: it is above those that this seat drew, and not below what it saw before. It
-    /// takes no memory, and waits for nobody.
+    /// The least number that isn't drawn yet: it is above those that this seat drew, and not below what it saw before.
+    /// It takes no memory, and waits for nobody.
     pub fn seen(&self, seat: &mut StampSeat) -> u64
         requires { seat.old.of_table ≡ self.now }
         ensures saw { seat.new ≡ saw seat.old result }

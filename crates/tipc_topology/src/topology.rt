@@ -158,9 +158,9 @@ impl Topology {
     ///
     /// # Errors
     ///
-    /// `BadRange` exactly where the lower bound is above the upper; else `BadFilter` exactly where the filter is neither
-    /// 1 nor 2; else `Full` exactly where 256 subscriptions are there or 4,294,967,295 were made in this boot; else
-    /// `NoMemory` where memory runs out.
+    /// `BadRange` exactly where the lower bound is above the upper; else `BadFilter` exactly where the filter is
+    /// neither 1 nor 2; else `Full` exactly where 256 subscriptions are there or 4,294,967,295 were made in this boot;
+    /// else `NoMemory` where memory runs out.
     pub fn subscribe<N: Names>(
         &mut self,
         alloc: Global,
@@ -308,8 +308,8 @@ impl Topology {
         Ok(SubscriptionNumbers::from_vec(numbers))
     }
 
-    /// Lets a tick pass, as `tick` does, where the numbers of those that time out are known: they end one after another,
-    /// and then the tick passes for all. It takes no memory.
+    /// Lets a tick pass, as `tick` does, where the numbers of those that time out are known: they end one after
+    /// another, and then the tick passes for all. It takes no memory.
     pub fn pass(&mut self)
         ensures ticked { self.new ≡ with_kept self.old (map ticked self.old.kept) }
         ensures parts { self.new ≡ passed (fold (λ t n. ended_at n t) self.old (due self.old.kept)) }

@@ -21,8 +21,8 @@ pub struct Tunnel<'a> {
     pub count: u16,
     /// The inner packet's number in that session. 0 in a run of no packets.
     pub number: u16,
-    /// The inner packet, under its number. Nothing in a run of no packets, and in the placeholder of a packet that was a
-    /// tunnel packet itself.
+    /// The inner packet, under its number. Nothing in a run of no packets, and in the placeholder of a packet that was
+    /// a tunnel packet itself.
     pub inner: &'a [u8],
 }
 

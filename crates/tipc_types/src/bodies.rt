@@ -45,8 +45,8 @@ impl HeldBytes {
     }
 }
 
-/// The body of a message: bytes that never change but at the end, where they may be cut, so that every copy shares them. Contracts see the
-/// list of them.
+/// The body of a message: bytes that never change but at the end, where they may be cut, so that every copy shares
+/// them. Contracts see the list of them.
 #[derive(Debug, Drop)]
 pub struct Body {
     held: HeldBytes,

@@ -26,7 +26,8 @@ pub(crate) enum HeldValues<T> {
     Several(Vec<T>),
 }
 
-/// A list of values, which contracts see as that list and nothing else. Where it has one value alone it takes no memory but its own.
+/// A list of values, which contracts see as that list and nothing else. Where it has one value alone it takes no memory
+/// but its own.
 #[derive(Debug, Drop)]
 pub struct Few<T> {
     alloc: Global,

@@ -195,8 +195,8 @@ impl Clone for PeerLinks {
     }
 }
 
-/// The answer of an event, as it is printed. A journal keeps the answer of each call and each arrival at its node; `TooOld` and
-/// `NoFrame` are a world's, for an arrival that reaches no node.
+/// The answer of an event, as it is printed. A journal keeps the answer of each call and each arrival at its node;
+/// `TooOld` and `NoFrame` are a world's, for an arrival that reaches no node.
 #[derive(Clone, Debug, Drop, PartialEq)]
 pub enum Answer {
     /// Done, with nothing to tell.

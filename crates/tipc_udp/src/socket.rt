@@ -19,8 +19,8 @@ const MOST_BYTES: usize = 2_048;
 /// How far the port of a node's bearer 1 lies above that of its bearer 0.
 const PORTS_OF_BEARER: u16 = 64;
 
-/// A node's bearer over UDP. It stands at the port `base + 64 * bearer + node` of 127.0.0.1, and takes what comes there from
-/// whomever. Trusted edge: what is sent arrives or not, and what is heard is the system's word.
+/// A node's bearer over UDP. It stands at the port `base + 64 * bearer + node` of 127.0.0.1, and takes what comes there
+/// from whomever. Trusted edge: what is sent arrives or not, and what is heard is the system's word.
 #[derive(Drop)]
 pub struct UdpBearer {
     socket: UdpSocket,
@@ -146,8 +146,8 @@ impl Bearer for UdpBearer {
 
     ghost given = { λ b. b.given };
 
-    /// A frame to all goes to each other node, one to an address that no node has to nobody. It fails, and counts one fault,
-    /// exactly where the system refuses a datagram; the other ones were sent.
+    /// A frame to all goes to each other node, one to an address that no node has to nobody. It fails, and counts one
+    /// fault, exactly where the system refuses a datagram; the other ones were sent.
     fn send(&mut self, to: To, frame: &[u8]) -> Result<(), BearerFault>
         ensures later { self.old.faults ≤ self.new.faults }
         ensures cause { IsErrOf result BearerFault.Failed → Rose self.old.faults self.new.faults }
@@ -165,8 +165,8 @@ impl Bearer for UdpBearer {
         Err(self.fault())
     }
 
-    /// A datagram is handed on as it is, but for what it has behind its first 2,048 bytes. It comes in place of what `into`
-    /// held; at every other answer `into` is as it was. Where memory runs out the datagram is lost.
+    /// A datagram is handed on as it is, but for what it has behind its first 2,048 bytes. It comes in place of what
+    /// `into` held; at every other answer `into` is as it was. Where memory runs out the datagram is lost.
     fn receive(&mut self, into: &mut Vec<u8>) -> Result<Heard, BearerFault>
         ensures later { self.old.faults ≤ self.new.faults }
         ensures cause { IsErrOf result BearerFault.Failed → Rose self.old.faults self.new.faults }
