@@ -1,30 +1,33 @@
--- Lines of the kinds that a generated script has: they are in the grammar, ask for nodes 1 to 4 alone, and are one line.
-use Rattle.std.proofs.Common.{◌≡◌, ℕ, ◌≤◌, true, false, Some, List, [], ◌∷◌, length, refl, sym, ap, subst, inr, arith}
-use Rattle.std.specs.List.{AllByRecursion, list_all}
+-- Lines of the kinds that a generated script has: they are in the grammar, ask for nodes 1 to 4 alone, and are one
+-- line.
+use Rattle.std.proofs.Common.{◌≡◌, ℕ, ◌≤◌, ◌<◌, ◌^◌, Some, List, [], ◌∷◌, length, refl, sym, ap, subst, inr, arith}
+use Rattle.std.specs.List.{AllByRecursion}
 use Rattle.std.specs.Prelude.{codes}
 use Rattle.std.specs.Fmt.{decimal}
+use Rattle.std.proofs.lemmas.Bool.{le-leb}
 use Rattle.std.proofs.lemmas.List.Elements.{All-from_recursion}
 use Rattle.tipc_types.specs.declared.message_forms.Importance.{Importance}
 use Rattle.tipc_types.specs.declared.message_forms.Importance.TheVariants as level
+use Rattle.tipc_types.specs.declared.node_calls.EventNote.{EventNote}
+use Rattle.tipc_types.specs.declared.node_calls.EventNote.TheVariants as call
 use Rattle.tipc_types.specs.declared.services.Scope.TheVariants as scope
-use Rattle.tipc_script.specs.declared.lines.Destination.TheVariants as destination
 use Rattle.tipc_script.specs.declared.lines.Line.{Line}
 use Rattle.tipc_script.specs.declared.lines.Line.TheVariants as line
-use Rattle.tipc_script.specs.Splitting.{tokens_of}
-use Rattle.tipc_script.specs.Kinds.{form_in, is_remark, number_of, pattern}
-use Rattle.tipc_script.specs.Grammar.{Row, cut_row, flow_row, mend_row, nodes_of, publish_row, receive_row, row_nodes, row_of, send_row, settle_row, socket_row}
-use Rattle.tipc_script.specs.Spelling.{Asks, spaced, spelling_of}
-use Rattle.tipc_script.proofs.Acceptance.{left_behind}
-use Rattle.tipc_script.proofs.Accepted.{asks_accepted}
+use Rattle.tipc_script.specs.declared.lines.SendForm.TheVariants as form
+use Rattle.tipc_script.specs.Kinds.{form_in, number_of, pattern}
+use Rattle.tipc_script.specs.Shapes.{Spells, nodes_in}
+use Rattle.tipc_script.specs.Grammar.{Asks, Row, cut_row, flow_row, mend_row, nodes_of, offering, publish_row, receive_row, row_of, send_row, settle_row, socket_row}
+use Rattle.tipc_script.specs.Grammar.Asks.{by_row}
+use Rattle.tipc_script.specs.Spelling.{IsBody, spaced}
+use Rattle.tipc_script.proofs.Accepted.{IsParted, asks_accepted, left_behind, row_parted}
 use Rattle.tipc_script.proofs.Bodies.{length_pattern, pattern_word}
 use Rattle.tipc_script.proofs.Numerals.{number_of-decimal}
-use Rattle.tipc_script.proofs.Spaces.{has_no_space, no_space-decimal, tokens_of-spaced}
 use Rattle.tipc_load.specs.Clear.{AsksForOne, IsClear, IsOfFour, IsOneLine}
+use Rattle.tipc_load.specs.Spelling.{spelling_of}
 use Rattle.tipc_load.proofs.Words.{IsWord, decimal_word, literal, row_of_words, star_word}
 
 -- a message that a generated script sends
-pub record IsLoadMessage (node port kind instance : ℕ) (importance : Importance) (body : List ℕ) : Type 0 where
-  pub from_node : IsOfFour node
+pub record IsLoadMessage (port kind instance : ℕ) (importance : Importance) (body : List ℕ) : Type 0 where
   pub from_port : port ≤ 5000
   pub type_fits : kind ≤ 5000
   pub instance_fits : instance ≤ 5000
@@ -33,16 +36,21 @@ pub record IsLoadMessage (node port kind instance : ℕ) (importance : Importanc
   pub few : count ≤ 5000
   pub told : body ≡ pattern count
 
+-- a call that a generated script makes, with values that fit
+abbrev pub IsLoadCall : EventNote → Type 0
+IsLoadCall (call.Mend bearer) = bearer ≤ 1
+IsLoadCall (call.Cut bearer) = bearer ≤ 1
+IsLoadCall call.Socket = Unit {0}
+IsLoadCall (call.Publish port range at key) =
+    (port ≤ 5000) × (range.kind ≤ 5000) × (range.lower ≤ range.upper) × (range.upper ≤ 5000) × (at ≡ scope.Cluster) × (key ≤ 5000)
+IsLoadCall (call.SendName port kind instance importance body) = IsLoadMessage port kind instance importance body
+IsLoadCall (call.Receive port) = port ≤ 5000
+IsLoadCall other = ⊥
+
 -- a line of a kind that a generated script has behind its first four, with values that fit
 abbrev pub IsLoadLine : Line → Type 0
-IsLoadLine (line.Mend node bearer) = IsOfFour node × (bearer ≤ 1)
-IsLoadLine (line.Cut node bearer) = IsOfFour node × (bearer ≤ 1)
+IsLoadLine (line.Call node call) = IsOfFour node × IsLoadCall call
 IsLoadLine (line.Settle rounds) = rounds ≤ 400
-IsLoadLine (line.Socket node) = IsOfFour node
-IsLoadLine (line.Publish node port kind lower upper at key) =
-    IsOfFour node × (port ≤ 5000) × (kind ≤ 5000) × (lower ≤ 5000) × (upper ≤ 5000) × (at ≡ scope.Cluster) × (key ≤ 5000)
-IsLoadLine (line.Send node port (destination.Name kind instance) importance body) = IsLoadMessage node port kind instance importance body
-IsLoadLine (line.Receive node port) = IsOfFour node × (port ≤ 5000)
 IsLoadLine (line.Flow from to) = IsOfFour from × IsOfFour to
 IsLoadLine other = ⊥
 
@@ -52,70 +60,67 @@ pub record IsSoundLine (line : Line) : Type 0 where
   pub clear : IsClear (spelling_of line)
   pub whole : IsOneLine (spelling_of line)
 
--- a line whose first word has this row, and these tokens behind it
-record IsOfRow (row : Row) (tokens : List (List ℕ)) (line : Line) : Type 0 where
-  spelled : spelling_of line ≡ spaced (row.word ∷ tokens)
-  asked : Asks (spelling_of line) line
-  words : is_remark (spaced (row.word ∷ tokens)) ≡ false
-  apart : list_all has_no_space (row.word ∷ tokens) ≡ true
+-- a line whose first word has this row, and these words behind it
+record IsOfRow (row : Row) (words : List (List ℕ)) (line : Line) : Type 0 where
+  spelled : spelling_of line ≡ spaced (row.word ∷ words)
   found : row_of row.word ≡ Some row
-  nodes : AllByRecursion AsksForOne (row_nodes row (left_behind (spelling_of line) row.word tokens))
-  small : AllByRecursion IsWord (row.word ∷ tokens)
-  few : length (row.word ∷ tokens) ≤ 10
+  spells : Spells row.shape words line
+  nodes : AllByRecursion AsksForOne (nodes_in row.shape (left_behind (spelling_of line) row.word words))
+  small : AllByRecursion IsWord (row.word ∷ words)
+  few : length (row.word ∷ words) ≤ 10
 
-nodes_spelled : (text : List ℕ) (row : Row) (tokens : List (List ℕ)) → is_remark text ≡ false → tokens_of text ≡ row.word ∷ tokens → row_of row.word ≡ Some row → nodes_of text ≡ row_nodes row (left_behind text row.word tokens)
+nodes_spelled : (text : List ℕ) (row : Row) (words : List (List ℕ)) → IsParted text row words → row_of row.word ≡ Some row → nodes_of text ≡ nodes_in row.shape (left_behind text row.word words)
 unfolding nodes_of
-nodes_spelled text row tokens words cut found = rw (words, cut, found) refl
+nodes_spelled text row words cut found = rw (cut.no_remark, cut.tokens, found) refl
 
-sound_of_row : (row : Row) (tokens : List (List ℕ)) (line : Line) → IsOfRow row tokens line → IsSoundLine line
-sound_of_row row tokens line h =
+sound_of_row : (row : Row) (words : List (List ℕ)) (line : Line) → IsOfRow row words line → IsSoundLine line
+sound_of_row row words line h =
     let text = spelling_of line in
-    let words : is_remark text ≡ false = rw h.spelled h.words in
-    let cut : tokens_of text ≡ row.word ∷ tokens = rw h.spelled (tokens_of-spaced row.word tokens h.apart) in
-    let same = nodes_spelled text row tokens words cut h.found in
-    let whole = row_of_words row.word tokens h.small in
+    let asked : Asks text line = by_row row words line h.found h.spelled h.spells in
+    let same = nodes_spelled text row words (row_parted text row words line h.found h.spelled h.spells) h.found in
+    let whole = row_of_words row.word words h.small in
     record {
-      asked = h.asked;
-      clear = record { fault = (asks_accepted text line h.asked).fault; nodes = All-from_recursion AsksForOne (nodes_of text) (rw same h.nodes) };
+      asked = asked;
+      clear = record { fault = (asks_accepted text line asked).fault; nodes = All-from_recursion AsksForOne (nodes_of text) (rw same h.nodes) };
       whole = rw h.spelled (record { some = whole.some; short = omega (arith, whole.short, h.few); whole = whole.whole });
     }
 
 -- what a number up to 5,000 is written with
 record IsShort (n : ℕ) : Type 0 where
   word : IsWord (decimal n)
-  apart : has_no_space (decimal n) ≡ true
   value : number_of (decimal n) ≡ n
+  fits : n < 2 ^ 32
 
 short_number : (n : ℕ) → n ≤ 5000 → IsShort n
-short_number n low = record { word = decimal_word n (omega arith); apart = no_space-decimal n (omega arith); value = number_of-decimal n (omega arith) }
+short_number n low = record { word = decimal_word n (omega arith); value = number_of-decimal n (omega arith); fits = omega arith }
 
-mend_line : (n x : ℕ) → IsOfFour n → x ≤ 1 → IsSoundLine (line.Mend n x)
+-- one of the four nodes is a node
+is_node : (n : ℕ) → IsOfFour n → (1 ≤ n) × (n ≤ 32)
+is_node n h = (h.0, omega (arith, h.1))
+
+mend_line : (n x : ℕ) → IsOfFour n → x ≤ 1 → IsSoundLine (line.Call n (call.Mend x))
 unfolding row_of
 mend_line n x h bearer =
     let node = short_number n (omega (arith, h.1)) in
     let other = short_number x (omega (arith, bearer)) in
-    sound_of_row mend_row (decimal n ∷ decimal x ∷ []) (line.Mend n x) (record {
+    sound_of_row mend_row (decimal n ∷ decimal x ∷ []) (line.Call n (call.Mend x)) (record {
       spelled = refl;
-      asked = (((h.0, omega (arith, h.1)), bearer), refl);
-      words = refl;
-      apart = rw (node.apart, other.apart) refl;
       found = refl;
+      spells = (n, _, is_node n h, refl, (x, _, bearer, refl, (refl, refl)));
       nodes = rw (node.value) ((refl, h), tt);
       small = (literal (codes "mend") refl refl refl, (node.word, (other.word, tt)));
       few = omega arith;
     })
 
-cut_line : (n x : ℕ) → IsOfFour n → x ≤ 1 → IsSoundLine (line.Cut n x)
+cut_line : (n x : ℕ) → IsOfFour n → x ≤ 1 → IsSoundLine (line.Call n (call.Cut x))
 unfolding row_of
 cut_line n x h bearer =
     let node = short_number n (omega (arith, h.1)) in
     let other = short_number x (omega (arith, bearer)) in
-    sound_of_row cut_row (decimal n ∷ decimal x ∷ []) (line.Cut n x) (record {
+    sound_of_row cut_row (decimal n ∷ decimal x ∷ []) (line.Call n (call.Cut x)) (record {
       spelled = refl;
-      asked = (((h.0, omega (arith, h.1)), bearer), refl);
-      words = refl;
-      apart = rw (node.apart, other.apart) refl;
       found = refl;
+      spells = (n, _, is_node n h, refl, (x, _, bearer, refl, (refl, refl)));
       nodes = rw (node.value) ((refl, h), tt);
       small = (literal (codes "cut") refl refl refl, (node.word, (other.word, tt)));
       few = omega arith;
@@ -127,106 +132,83 @@ settle_line r low =
     let rounds = short_number r (omega arith) in
     sound_of_row settle_row (decimal r ∷ []) (line.Settle r) (record {
       spelled = refl;
-      asked = (omega arith, refl);
-      words = refl;
-      apart = rw (rounds.apart) refl;
       found = refl;
+      spells = (r, _, omega arith, refl, (refl, refl));
       nodes = tt;
       small = (literal (codes "settle") refl refl refl, (rounds.word, tt));
       few = omega arith;
     })
 
-socket_line : (n : ℕ) → IsOfFour n → IsSoundLine (line.Socket n)
+socket_line : (n : ℕ) → IsOfFour n → IsSoundLine (line.Call n call.Socket)
 unfolding row_of
 socket_line n h =
     let node = short_number n (omega (arith, h.1)) in
-    sound_of_row socket_row (decimal n ∷ []) (line.Socket n) (record {
+    sound_of_row socket_row (decimal n ∷ []) (line.Call n call.Socket) (record {
       spelled = refl;
-      asked = ((h.0, omega (arith, h.1)), refl);
-      words = refl;
-      apart = rw (node.apart) refl;
       found = refl;
+      spells = (n, _, is_node n h, refl, (refl, refl));
       nodes = rw (node.value) ((refl, h), tt);
       small = (literal (codes "socket") refl refl refl, (node.word, tt));
       few = omega arith;
     })
 
-publish_line : (n p k l u y : ℕ) → IsOfFour n → p ≤ 5000 → k ≤ 5000 → l ≤ 5000 → u ≤ 5000 → y ≤ 5000 → IsSoundLine (line.Publish n p k l u scope.Cluster y)
+publish_line : (n p k l u y : ℕ) → IsOfFour n → p ≤ 5000 → k ≤ 5000 → l ≤ u → u ≤ 5000 → y ≤ 5000 → IsSoundLine (line.Call n (offering p k l u scope.Cluster y))
 unfolding row_of
-publish_line n p k l u y h p-low k-low l-low u-low y-low =
+publish_line n p k l u y h p-low k-low ordered u-low y-low =
     let node = short_number n (omega (arith, h.1)) in
     let port = short_number p p-low in
     let kind = short_number k k-low in
-    let lower = short_number l l-low in
+    let lower = short_number l (omega (arith, ordered, u-low)) in
     let upper = short_number u u-low in
     let key = short_number y y-low in
-    sound_of_row publish_row (decimal n ∷ decimal p ∷ decimal k ∷ decimal l ∷ decimal u ∷ codes "cluster" ∷ decimal y ∷ []) (line.Publish n p k l u scope.Cluster y) (record {
+    let at = codes "cluster" in
+    let words : List (List ℕ) = decimal n ∷ decimal p ∷ decimal k ∷ decimal l ∷ decimal u ∷ at ∷ decimal y ∷ [] in
+    sound_of_row publish_row words (line.Call n (offering p k l u scope.Cluster y)) (record {
       spelled = refl;
-      asked = (
-        record {
-          from_node = (h.0, omega (arith, h.1));
-          from_port = omega (arith, p-low);
-          type_fits = omega (arith, k-low);
-          lower_fits = omega (arith, l-low);
-          upper_fits = omega (arith, u-low);
-          key_fits = omega (arith, y-low);
-        },
-        refl,
-      );
-      words = refl;
-      apart = rw (node.apart, port.apart, kind.apart, lower.apart, upper.apart, key.apart) refl;
       found = refl;
+      spells = (n, _, is_node n h, refl, (p, _, port.fits, refl, (k, _, kind.fits, refl, (l, _, lower.fits, refl, (u, _, upper.fits, refl, (scope.Cluster, _, tt, refl, (y, _, key.fits, refl, (refl, rw (le-leb l u ordered) refl))))))));
       nodes = rw (node.value) ((refl, h), tt);
       small = (
         literal (codes "publish") refl refl refl,
-        (node.word, (port.word, (kind.word, (lower.word, (upper.word, (literal (codes "cluster") refl refl refl, (key.word, tt))))))),
+        (node.word, (port.word, (kind.word, (lower.word, (upper.word, (literal at refl refl refl, (key.word, tt))))))),
       );
       few = omega arith;
     })
 
 send_line : (n p k i c : ℕ) → IsOfFour n → p ≤ 5000 → k ≤ 5000 → i ≤ 5000 → c ≤ 5000
-    → IsSoundLine (line.Send n p (destination.Name k i) level.Low (pattern c))
+    → IsSoundLine (line.Call n (call.SendName p k i level.Low (pattern c)))
 unfolding row_of form_in
 send_line n p k i c h p-low k-low i-low c-low =
     let node = short_number n (omega (arith, h.1)) in
     let port = short_number p p-low in
     let kind = short_number k k-low in
     let instance = short_number i i-low in
-    let count = short_number c c-low in
-    let tokens : List (List ℕ) = decimal n ∷ decimal p ∷ codes "name" ∷ decimal k ∷ decimal i ∷ codes "low" ∷ (42 ∷ decimal c) ∷ [] in
-    sound_of_row send_row tokens (line.Send n p (destination.Name k i) level.Low (pattern c)) (record {
-      spelled = ap (λ w. spaced (codes "send" ∷ decimal n ∷ decimal p ∷ codes "name" ∷ decimal k ∷ decimal i ∷ codes "low" ∷ w ∷ [])) (pattern_word c);
-      asked = (
-        record {
-          from_node = (h.0, omega (arith, h.1));
-          from_port = omega (arith, p-low);
-          whom = (omega (arith, k-low), omega (arith, i-low));
-          told = inr (omega (arith, length_pattern c, c-low), ap pattern (sym (length_pattern c)));
-        },
-        refl,
-      );
-      words = refl;
-      apart = rw (node.apart, port.apart, kind.apart, instance.apart, count.apart) refl;
+    let by = codes "name" in
+    let low = codes "low" in
+    let star : List ℕ = 42 ∷ decimal c in
+    let words : List (List ℕ) = decimal n ∷ decimal p ∷ by ∷ decimal k ∷ decimal i ∷ low ∷ star ∷ [] in
+    let told : IsBody (pattern c) = inr (omega (arith, length_pattern c, c-low), ap pattern (sym (length_pattern c))) in
+    sound_of_row send_row words (line.Call n (call.SendName p k i level.Low (pattern c))) (record {
+      spelled = ap (λ w. spaced (codes "send" ∷ decimal n ∷ decimal p ∷ by ∷ decimal k ∷ decimal i ∷ low ∷ w ∷ [])) (pattern_word c);
       found = refl;
+      spells = (n, _, is_node n h, refl, (p, _, port.fits, refl, (form.Name, _, tt, refl, (k, _, kind.fits, refl, (i, _, instance.fits, refl, (level.Low, _, tt, refl, (pattern c, _, told, ap (λ w. w ∷ []) (sym (pattern_word c)), (refl, refl))))))));
       nodes = rw (node.value) ((refl, h), tt);
       small = (
         literal (codes "send") refl refl refl,
-        (node.word, (port.word, (literal (codes "name") refl refl refl, (kind.word, (instance.word, (literal (codes "low") refl refl refl, (star_word c (omega (arith, c-low)), tt))))))),
+        (node.word, (port.word, (literal by refl refl refl, (kind.word, (instance.word, (literal low refl refl refl, (star_word c (omega (arith, c-low)), tt))))))),
       );
       few = omega arith;
     })
 
-receive_line : (n p : ℕ) → IsOfFour n → p ≤ 5000 → IsSoundLine (line.Receive n p)
+receive_line : (n p : ℕ) → IsOfFour n → p ≤ 5000 → IsSoundLine (line.Call n (call.Receive p))
 unfolding row_of
 receive_line n p h p-low =
     let node = short_number n (omega (arith, h.1)) in
     let port = short_number p p-low in
-    sound_of_row receive_row (decimal n ∷ decimal p ∷ []) (line.Receive n p) (record {
+    sound_of_row receive_row (decimal n ∷ decimal p ∷ []) (line.Call n (call.Receive p)) (record {
       spelled = refl;
-      asked = (((h.0, omega (arith, h.1)), omega (arith, p-low)), refl);
-      words = refl;
-      apart = rw (node.apart, port.apart) refl;
       found = refl;
+      spells = (n, _, is_node n h, refl, (p, _, port.fits, refl, (refl, refl)));
       nodes = rw (node.value) ((refl, h), tt);
       small = (literal (codes "receive") refl refl refl, (node.word, (port.word, tt)));
       few = omega arith;
@@ -239,47 +221,28 @@ flow_line a b h g =
     let to = short_number b (omega (arith, g.1)) in
     sound_of_row flow_row (decimal a ∷ decimal b ∷ []) (line.Flow a b) (record {
       spelled = refl;
-      asked = (((h.0, omega (arith, h.1)), (g.0, omega (arith, g.1))), refl);
-      words = refl;
-      apart = rw (from.apart, to.apart) refl;
       found = refl;
+      spells = (a, _, is_node a h, refl, (b, _, is_node b g, refl, (refl, refl)));
       nodes = rw (from.value, to.value) ((refl, h), ((refl, g), tt));
       small = (literal (codes "flow") refl refl refl, (from.word, (to.word, tt)));
       few = omega arith;
     })
 
+sound_call : (node : ℕ) (note : EventNote) → IsOfFour node → IsLoadCall note → IsSoundLine (line.Call node note)
+sound_call node (call.Mend bearer) h g = mend_line node bearer h g
+sound_call node (call.Cut bearer) h g = cut_line node bearer h g
+sound_call node call.Socket h g = socket_line node h
+sound_call node (call.Publish port range at key) h g =
+    subst (λ s. IsSoundLine (line.Call node (call.Publish port range s key))) (sym g.4) (publish_line node port range.kind range.lower range.upper key h g.0 g.1 g.2 g.3 g.5)
+sound_call node (call.SendName port kind instance importance body) h g =
+    subst (λ (w : Importance). IsSoundLine (line.Call node (call.SendName port kind instance w body))) (sym g.least)
+    (subst (λ (b : List ℕ). IsSoundLine (line.Call node (call.SendName port kind instance level.Low b))) (sym g.told)
+    (send_line node port kind instance g.count h g.from_port g.type_fits g.instance_fits g.few))
+sound_call node (call.Receive port) h g = receive_line node port h g
+sound_call node other h g = absurd g
+
 pub sound_line : (line : Line) → IsLoadLine line → IsSoundLine line
-sound_line line.Nothing h = absurd h
-sound_line (line.Node node) h = absurd h
-sound_line (line.Mend node bearer) h = mend_line node bearer h.0 h.1
-sound_line (line.Cut node bearer) h = cut_line node bearer h.0 h.1
-sound_line (line.Tick node) h = absurd h
-sound_line (line.Restart node) h = absurd h
-sound_line (line.Link first second bearer) h = absurd h
-sound_line line.Mark h = absurd h
-sound_line (line.Socket node) h = socket_line node h
-sound_line (line.Close node port) h = absurd h
-sound_line (line.Publish node port kind lower upper at key) h =
-    subst (λ s. IsSoundLine (line.Publish node port kind lower upper s key)) (sym h.5) (publish_line node port kind lower upper key h.0 h.1 h.2 h.3 h.4 h.6)
-sound_line (line.Withdraw node port key) h = absurd h
-sound_line (line.Subscribe node kind lower upper timeout filter) h = absurd h
-sound_line (line.Event node number) h = absurd h
-sound_line (line.Cancel node number) h = absurd h
-sound_line (line.Send node port (destination.Port to) importance body) h = absurd h
-sound_line (line.Send node port (destination.Name kind instance) importance body) h =
-    subst (λ (w : Importance). IsSoundLine (line.Send node port (destination.Name kind instance) w body)) (sym h.least)
-    (subst (λ (b : List ℕ). IsSoundLine (line.Send node port (destination.Name kind instance) level.Low b)) (sym h.told)
-    (send_line node port kind instance h.count h.from_node h.from_port h.type_fits h.instance_fits h.few))
-sound_line (line.Send node port (destination.Cast kind lower upper) importance body) h = absurd h
-sound_line (line.Repeat times node port to importance body) h = absurd h
-sound_line (line.Arrive node bearer frame) h = absurd h
-sound_line (line.Receive node port) h = receive_line node port h.0 h.1
-sound_line (line.Drain node port) h = absurd h
-sound_line (line.Pump bearer) h = absurd h
-sound_line (line.Burst node port to_node to_port times body) h = absurd h
+sound_line (line.Call node call) h = sound_call node call h.0 h.1
 sound_line (line.Settle rounds) h = settle_line rounds h
-sound_line (line.Air bearer) h = absurd h
-sound_line (line.Show bearer frame) h = absurd h
-sound_line (line.Links node) h = absurd h
-sound_line (line.Table node) h = absurd h
 sound_line (line.Flow from to) h = flow_line from to h.0 h.1
+sound_line other h = absurd h

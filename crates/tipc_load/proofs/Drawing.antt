@@ -6,6 +6,7 @@ use Rattle.std.specs.Fmt.{decimal}
 use Rattle.std.proofs.lemmas.Bool.{false_from_ne_true, le-leb, leb-true, ne_eqb}
 use Rattle.std.proofs.lemmas.Fmt.{decimal_digit}
 use Rattle.std.proofs.lemmas.Grind.{flat_map-append}
+use Rattle.tipc_types.specs.declared.node_calls.EventNote.TheVariants as call
 use Rattle.tipc_script.specs.declared.lines.Line.TheVariants as line
 use Rattle.tipc_script.specs.Kinds.{pattern}
 use Rattle.tipc_script.specs.Spelling.{body_word}
@@ -27,13 +28,13 @@ star count = pattern_word count
 above : (a b : ℕ) → b < a → nat_le a b ≡ false
 above a b lt = false_from_ne_true _ (λ e. omega (arith, leb-true a b e))
 
-pub draws_receive : (v : ℕ) → 9 ≤ v % 16 → v % 16 ≤ 11 → drawn_line v ≡ line.Receive (1 + v / 16 % 4) 1
+pub draws_receive : (v : ℕ) → 9 ≤ v % 16 → v % 16 ≤ 11 → drawn_line v ≡ line.Call (1 + v / 16 % 4) (call.Receive 1)
 draws_receive v high low = rw (above (v % 16) 8 (omega arith), le-leb (v % 16) 11 low) refl
 
 pub draws_settle : (v : ℕ) → 12 ≤ v % 16 → v % 16 ≤ 13 → drawn_line v ≡ line.Settle 1
 draws_settle v high low = rw (above (v % 16) 8 (omega arith), above (v % 16) 11 (omega arith), le-leb (v % 16) 13 low) refl
 
-pub draws_mend : (v : ℕ) → 14 < v % 16 → drawn_line v ≡ line.Mend (1 + v / 16 % 4) (v / 2048 % 2)
+pub draws_mend : (v : ℕ) → 14 < v % 16 → drawn_line v ≡ line.Call (1 + v / 16 % 4) (call.Mend (v / 2048 % 2))
 draws_mend v high =
     rw (above (v % 16) 8 (omega arith), above (v % 16) 11 (omega arith), above (v % 16) 13 (omega arith), ne_eqb (v % 16) 14 (λ e. omega arith)) refl
 

@@ -5,8 +5,10 @@ use Rattle.std.specs.List.{AllByRecursion}
 use Rattle.std.proofs.lemmas.Bool.{cases_Bool}
 use Rattle.std.proofs.lemmas.List.{length-append}
 use Rattle.tipc_types.specs.declared.services.Scope.TheVariants as scope
+use Rattle.tipc_types.specs.declared.node_calls.EventNote.TheVariants as call
 use Rattle.tipc_script.specs.declared.lines.Line.{Line}
 use Rattle.tipc_script.specs.declared.lines.Line.TheVariants as line
+use Rattle.tipc_script.specs.Grammar.{offering}
 use Rattle.tipc_load.specs.Clear.{IsOfFour}
 use Rattle.tipc_load.specs.Load.{closing, drawn, drawn_line, drawn_lines, flows, for_each_node, generated_lines, mends, offers, opening, state_after, to_four}
 use Rattle.tipc_load.proofs.ClearLines.{IsLoadLine}
@@ -40,9 +42,9 @@ for_each lines h =
 mends_load : (node : ℕ) → IsOfFour node → AreLoadLines (mends node)
 mends_load node h = ((h, omega arith), ((h, omega arith), tt))
 
-offer_load : (node instance : ℕ) → IsOfFour node → instance ≤ 5 → IsLoadLine (line.Publish node 1 (1000 + node) instance instance scope.Cluster instance)
+offer_load : (node instance : ℕ) → IsOfFour node → instance ≤ 5 → IsLoadLine (line.Call node (offering 1 (1000 + node) instance instance scope.Cluster instance))
 offer_load node instance h low =
-    (h, omega arith, omega (arith, h.1), omega (arith, low), omega (arith, low), refl, omega (arith, low))
+    (h, (omega arith, omega (arith, h.1), omega arith, omega (arith, low), refl, omega (arith, low)))
 
 offers_load : (node : ℕ) → IsOfFour node → AreLoadLines (offers node)
 offers_load node h =
@@ -52,9 +54,9 @@ offers_load node h =
 opening_load : AreLoadLines (drop 4 opening)
 unfolding opening
 opening_load =
-    let sockets : List Line = map (λ node. line.Socket node) to_four in
+    let sockets : List Line = map (λ node. line.Call node call.Socket) to_four in
     let last : AreLoadLines (for_each_node offers ++ (line.Settle 12 ∷ [])) = both (for_each_node offers) (line.Settle 12 ∷ []) (for_each offers offers_load) (omega arith, tt) in
-    let rest : AreLoadLines (line.Settle 12 ∷ (sockets ++ (for_each_node offers ++ (line.Settle 12 ∷ [])))) = (omega arith, (one, (two, (three, (four, last))))) in
+    let rest : AreLoadLines (line.Settle 12 ∷ (sockets ++ (for_each_node offers ++ (line.Settle 12 ∷ [])))) = (omega arith, ((one, tt), ((two, tt), ((three, tt), ((four, tt), last))))) in
     both (for_each_node mends) (line.Settle 12 ∷ (sockets ++ (for_each_node offers ++ (line.Settle 12 ∷ [])))) (for_each mends mends_load) rest
 
 flows_load : AreLoadLines (for_each_node flows)
@@ -77,16 +79,18 @@ drawn_load number =
     let node : IsOfFour (1 + number / 16 % 4) = (omega arith, omega arith) in
     let bearer : number / 2048 % 2 ≤ 1 = omega arith in
     elim (cases_Bool (nat_le (number % 16) 8)) [
-      | inl send ↦ rw send (record {
-        from_node = node;
-        from_port = omega arith;
-        type_fits = omega arith;
-        instance_fits = omega arith;
-        least = refl;
-        count = number / 4096 % 3000;
-        few = omega arith;
-        told = refl;
-      })
+      | inl send ↦ rw send (
+        node,
+        (record {
+          from_port = omega arith;
+          type_fits = omega arith;
+          instance_fits = omega arith;
+          least = refl;
+          count = number / 4096 % 3000;
+          few = omega arith;
+          told = refl;
+        }),
+      )
       | inr other ↦ rw other (elim (cases_Bool (nat_le (number % 16) 11)) [
         | inl receive ↦ rw receive (node, omega arith)
         | inr other ↦ rw other (elim (cases_Bool (nat_le (number % 16) 13)) [

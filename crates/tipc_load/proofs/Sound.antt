@@ -1,15 +1,17 @@
 -- What is shown of the lines of a generated script.
-use Rattle.std.proofs.Common.{◌≡◌, ℕ, true, List, [], ◌∷◌, drop, take, refl, arith}
+use Rattle.std.proofs.Common.{◌≡◌, ℕ, ◌≤◌, true, List, [], ◌∷◌, drop, take, refl, arith}
 use Rattle.std.specs.List.{All, AllByRecursion}
 use Rattle.std.specs.Prelude.{length, nat_le}
-use Rattle.std.specs.Fmt.{digits}
+use Rattle.std.specs.Fmt.{decimal, digits}
 use Rattle.std.proofs.lemmas.Bool.{leb-true}
 use Rattle.std.proofs.lemmas.List.Elements.{All-from_recursion}
 use Rattle.tipc_script.specs.declared.lines.Line.{Line}
 use Rattle.tipc_script.specs.declared.lines.Line.TheVariants as line
-use Rattle.tipc_script.specs.Spelling.{Asks, spelling_of}
+use Rattle.tipc_script.specs.Grammar.{Asks, node_row, row_of}
+use Rattle.tipc_script.specs.Grammar.Asks.{by_row}
 use Rattle.tipc_load.specs.Clear.{IsClear, IsOneLine, has_no_newline}
 use Rattle.tipc_load.specs.Load.{first_nodes, generated_lines, opening}
+use Rattle.tipc_load.specs.Spelling.{spelling_of}
 use Rattle.tipc_load.proofs.ClearLines.{IsSoundLine, sound_line}
 use Rattle.tipc_load.proofs.LoadLines.{AreLoadLines, load_behind}
 
@@ -24,9 +26,18 @@ unfolding opening
 whole P step one two three four seed =
     All-from_recursion P (generated_lines seed) (one, (two, (three, (four, each_sound P step (drop 4 (generated_lines seed)) (load_behind seed)))))
 
+-- a line that makes a node asks for it
+node_asked : (node : ℕ) → 1 ≤ node → node ≤ 32 → Asks (spelling_of (line.Node node)) (line.Node node)
+unfolding row_of
+node_asked node low high = by_row node_row (decimal node ∷ []) (line.Node node) refl refl (node, [], (low, high), refl, (refl, refl))
+
 pub all_asked : (seed : ℕ) → All (λ line. Asks (spelling_of line) line) (generated_lines seed)
 all_asked seed =
-    whole (λ line. Asks (spelling_of line) line) (λ line sound. sound.asked) ((omega arith, omega arith), refl) ((omega arith, omega arith), refl) ((omega arith, omega arith), refl) ((omega arith, omega arith), refl) seed
+    let one = node_asked 1 (omega arith) (omega arith) in
+    let two = node_asked 2 (omega arith) (omega arith) in
+    let three = node_asked 3 (omega arith) (omega arith) in
+    let four = node_asked 4 (omega arith) (omega arith) in
+    whole (λ line. Asks (spelling_of line) line) (λ line sound. sound.asked) one two three four seed
 
 pub first_four : (seed : ℕ) → take 4 (generated_lines seed) ≡ first_nodes
 unfolding opening

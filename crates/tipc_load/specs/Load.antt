@@ -2,12 +2,13 @@
 use Rattle.std.specs.Prelude.{ℕ, ◌+◌, ◌*◌, ◌/◌, ◌%◌, ◌^◌, ◌==◌, nat_le, if◌then◌else◌, zero, suc, not, List, [], ◌∷◌, ◌++◌, map, filter}
 use Rattle.std.specs.List.{flat_map}
 use Rattle.tipc_types.specs.declared.message_forms.Importance.TheVariants as importance
+use Rattle.tipc_types.specs.declared.node_calls.EventNote.TheVariants as call
 use Rattle.tipc_types.specs.declared.services.Scope.TheVariants as scope
-use Rattle.tipc_script.specs.declared.lines.Destination.TheVariants as destination
 use Rattle.tipc_script.specs.declared.lines.Line.{Line}
 use Rattle.tipc_script.specs.declared.lines.Line.TheVariants as line
 use Rattle.tipc_script.specs.Kinds.{pattern}
-use Rattle.tipc_script.specs.Spelling.{spelling_of}
+use Rattle.tipc_script.specs.Grammar.{offering}
+use Rattle.tipc_load.specs.Spelling.{spelling_of}
 
 -- the numbers from 1 to 4, and to 5
 abbrev pub to_four : List ℕ
@@ -26,7 +27,7 @@ first_nodes = map (λ node. line.Node node) to_four
 
 -- both bearers of a node are mended
 abbrev pub mends : ℕ → List Line
-mends node = line.Mend node 0 ∷ line.Mend node 1 ∷ []
+mends node = line.Call node (call.Mend 0) ∷ line.Call node (call.Mend 1) ∷ []
 
 -- the service that a node offers, at its first socket
 abbrev pub service_of : ℕ → ℕ
@@ -34,12 +35,12 @@ service_of node = 1000 + node
 
 -- its five instances, each as a publication of its own
 abbrev pub offers : ℕ → List Line
-offers node = map (λ instance. line.Publish node 1 (service_of node) instance instance scope.Cluster instance) to_five
+offers node = map (λ instance. line.Call node (offering 1 (service_of node) instance instance scope.Cluster instance)) to_five
 
 -- the lines before the drawn ones
 unfoldable pub opening : List Line
 opening =
-    first_nodes ++ (for_each_node mends ++ (line.Settle 12 ∷ (map (λ node. line.Socket node) to_four ++ (for_each_node offers ++ (line.Settle 12 ∷ [])))))
+    first_nodes ++ (for_each_node mends ++ (line.Settle 12 ∷ (map (λ node. line.Call node call.Socket) to_four ++ (for_each_node offers ++ (line.Settle 12 ∷ [])))))
 
 -- the state behind another
 abbrev pub next_state : ℕ → ℕ
@@ -49,17 +50,17 @@ next_state state = (state * 6364136223846793005 + 1442695040888963407) % 2 ^ 64
 abbrev pub drawn : ℕ → ℕ
 drawn state = state / 2 ^ 33
 
--- The line that a drawn number stands for. Its parts tell what is done, a node, the node whose service is meant and which instance of it, a bearer,
--- and how many bytes are sent.
+-- The line that a drawn number stands for. Its parts tell what is done, a node, the node whose service is meant and
+-- which instance of it, a bearer, and how many bytes are sent.
 abbrev pub drawn_line : ℕ → Line
 drawn_line number =
     let node = 1 + number / 16 % 4 in
     let bearer = number / 2048 % 2 in
     let what = number % 16 in
     if nat_le what 8
-    then line.Send node 1 (destination.Name (service_of (1 + number / 64 % 4)) (1 + number / 256 % 5)) importance.Low (pattern (number / 4096 % 3000))
-    else (if nat_le what 11 then line.Receive node 1
-    else (if nat_le what 13 then line.Settle 1 else (if what == 14 then line.Cut node bearer else line.Mend node bearer)))
+    then line.Call node (call.SendName 1 (service_of (1 + number / 64 % 4)) (1 + number / 256 % 5) importance.Low (pattern (number / 4096 % 3000)))
+    else (if nat_le what 11 then line.Call node (call.Receive 1)
+    else (if nat_le what 13 then line.Settle 1 else (if what == 14 then line.Call node (call.Cut bearer) else line.Call node (call.Mend bearer))))
 
 -- the state behind so many draws
 unfoldable pub state_after : ℕ → ℕ → ℕ

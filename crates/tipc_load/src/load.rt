@@ -3,12 +3,13 @@
 ghost use Rattle.std.specs.Prelude.{◌≡◌, ◌∷◌, ◌++◌, [], ℕ, IfOk, OnOk, drop, length, take};
 ghost use Rattle.std.specs.List.{All};
 ghost use Rattle.tipc_types.specs.declared.message_forms.Importance.{Importance};
-ghost use Rattle.tipc_script.specs.declared.lines.Destination.{Destination};
+ghost use Rattle.tipc_types.specs.declared.node_calls.EventNote.{EventNote};
 ghost use Rattle.tipc_script.specs.declared.lines.Line.{Line};
 ghost use Rattle.tipc_script.specs.Kinds.{pattern};
-ghost use Rattle.tipc_script.specs.Spelling.{Asks, spelling_of};
+ghost use Rattle.tipc_script.specs.Grammar.{Asks};
 ghost use Rattle.tipc_load.specs.Load.{drawn_line, first_nodes, generated, generated_lines};
 ghost use Rattle.tipc_load.specs.Clear.{IsClear, IsOneLine};
+ghost use Rattle.tipc_load.specs.Spelling.{spelling_of};
 
 use crate::draws::Draws;
 use std::alloc::Global;
@@ -17,8 +18,8 @@ use tipc_types::NoMemory;
 /// How many lines are drawn.
 const DRAWN_LINES: u32 = 1000;
 
-/// How the nodes come in: their bearers are mended, and each offers five instances of a service of its own, whose type is 1000 and
-/// the node's number.
+/// How the nodes come in: their bearers are mended, and each offers five instances of a service of its own, whose type
+/// is 1000 and the node's number.
 const OPENING: &[u8] = b"node 1
 node 2
 node 3
@@ -59,7 +60,8 @@ publish 4 1 1004 5 5 cluster 5
 settle 12
 ";
 
-/// The end: all bearers are mended, the nodes settle, and each two of them are asked how many messages went between them.
+/// The end: all bearers are mended, the nodes settle, and each two of them are asked how many messages went between
+/// them.
 const CLOSING: &[u8] = b"mend 1 0
 mend 1 1
 mend 2 0
@@ -93,14 +95,15 @@ fn send_text(
     count: u32,
 ) -> Result<Vec<u8>, NoMemory>
     ensures { IfOk result (λ text. text.items ≡
-        spelling_of (Line.Send node 1 (Destination.Name service instance) Importance.Low (pattern count))) }
+        spelling_of (Line.Call node (EventNote.SendName 1 service instance Importance.Low (pattern count)))) }
 {
     Ok(format!(in alloc; "send {node} 1 name {service} {instance} low *{count}")?.into_bytes())
 }
 
-/// The line that a drawn number stands for. Its lowest four bits say which line it is: of sixteen nine send, three receive,
-/// two settle, one cuts and one mends. Bits 4 and 5 say the node, bits 6 and 7 whose service a message is for, those from 8
-/// on, modulo 5, which of its instances, bit 11 the bearer, and those from 12 on, modulo 3,000, how long the message is.
+/// The line that a drawn number stands for. Its lowest four bits say which line it is: of sixteen nine send, three
+/// receive, two settle, one cuts and one mends. Bits 4 and 5 say the node, bits 6 and 7 whose service a message is for,
+/// those from 8 on, modulo 5, which of its instances, bit 11 the bearer, and those from 12 on, modulo 3,000, how long
+/// the message is.
 fn drawn_text(alloc: Global, draw: u32) -> Result<Vec<u8>, NoMemory>
     ensures { IfOk result (λ text. text.items ≡ spelling_of (drawn_line draw)) }
 {
@@ -148,8 +151,8 @@ pub fn generate(alloc: Global, seed: u64) -> Result<Vec<u8>, NoMemory>
     Ok(script)
 }
 
-/// Each generated script is sound: its lines are in the grammar, the first four make nodes 1 to 4, and no other line has a fault where
-/// these nodes are there. So a run of it meets no bad line.
+/// Each generated script is sound: its lines are in the grammar, the first four make nodes 1 to 4, and no other line
+/// has a fault where these nodes are there. So a run of it meets no bad line.
 pub fn loads_are_sound()
     ensures asked { (seed : ℕ) → All (λ line. Asks (spelling_of line) line) (generated_lines seed) }
     ensures first { (seed : ℕ) → take 4 (generated_lines seed) ≡ first_nodes }

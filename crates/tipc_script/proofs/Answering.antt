@@ -5,8 +5,7 @@ use Rattle.tipc_script.specs.declared.lines.Line.{Line}
 use Rattle.tipc_script.specs.declared.lines.Command.{Command}
 use Rattle.tipc_script.specs.declared.faults.LineFault.{LineFault}
 use Rattle.tipc_script.specs.declared.faults.LineFault.TheVariants as faults
-use Rattle.tipc_script.specs.Grammar.{asked}
-use Rattle.tipc_script.specs.Spelling.{Asks}
+use Rattle.tipc_script.specs.Grammar.{Asks, asked}
 use Rattle.tipc_script.specs.Faults.{fault_of, Tells, Reads}
 use Rattle.tipc_script.proofs.Found.{asks_found}
 use Rattle.tipc_script.proofs.Accepted.{asks_accepted}

@@ -8,6 +8,8 @@ use Rattle.tipc_types.specs.declared.services.Scope.{Scope}
 use Rattle.tipc_types.specs.declared.services.Scope.TheVariants.{Zone, Cluster, Node}
 use Rattle.tipc_script.specs.declared.lines.Filter.{Filter}
 use Rattle.tipc_script.specs.declared.lines.Filter.TheVariants.{Ports, Service}
+use Rattle.tipc_script.specs.declared.lines.SendForm.{SendForm}
+use Rattle.tipc_script.specs.declared.lines.SendForm.TheVariants as form
 use Rattle.tipc_script.specs.Kinds.{filter_in, filter_of, form_in, form_of, is_filter, is_form, is_scope, scope_in, scope_of}
 use Rattle.tipc_script.specs.Spelling.{filter_word, form_word, scope_word}
 use Rattle.tipc_script.proofs.Spaces.{has_no_space}
@@ -92,3 +94,20 @@ form_spelled token e =
                 ]
           ]
     ]
+
+pub is_form-word : (form : SendForm) → is_form (form_word form) ≡ true
+unfolding form_in
+is_form-word form.Name = refl
+is_form-word form.Port = refl
+is_form-word form.Cast = refl
+
+pub form_of-word : (form : SendForm) → form_of (form_word form) ≡ form
+unfolding form_in
+form_of-word form.Name = refl
+form_of-word form.Port = refl
+form_of-word form.Cast = refl
+
+pub no_space-form : (form : SendForm) → has_no_space (form_word form) ≡ true
+no_space-form form.Name = refl
+no_space-form form.Port = refl
+no_space-form form.Cast = refl

@@ -9,7 +9,9 @@ use Rattle.tipc_script.specs.declared.lines.Line.{Line}
 use Rattle.tipc_script.specs.declared.lines.Command.{Command}
 use Rattle.tipc_script.specs.Splitting.{Left, whole, first_token, behind}
 use Rattle.tipc_script.specs.Kinds.{Kind, NewNode, OldNode, AnyNode, BearerNumber, AnyNumber, FrameNumber, RoundsNumber, TimesNumber, SendWord, FormWord, ScopeWord, FilterWord, ImportanceWord, BodyText, takes, is_remark}
-use Rattle.tipc_script.specs.Grammar.{Row, row_nodes, row_of}
+use Rattle.tipc_script.specs.Values.{value_of}
+use Rattle.tipc_script.specs.Shapes.{Ends, Shape, Token, line_in, nodes_in}
+use Rattle.tipc_script.specs.Grammar.{Row, asked_by, nodes_by, row_of}
 
 -- a fault: the byte place in the line, from 1, and why
 abbrev pub Fault : Type 0
@@ -55,14 +57,15 @@ more_fault (token ∷ tokens) place = Some (place, why.End)
 unfoldable pub end_fault : Left → Option Fault
 end_fault left = more_fault left.tokens left.place
 
--- the first fault of the tokens that are left, which have to be of these kinds and no more
-abbrev pub fault_in : List Kind → Left → Option Fault
-fault_in [] left = end_fault left
-fault_in (kind ∷ kinds) left = option_or (first_fault (takes kind) (why_not kind) left) (fault_in kinds (behind left))
+-- the first fault of the tokens that are left, which have to be of this shape and no more
+abbrev pub fault_in : Shape → Left → Option Fault
+fault_in (Ends line) left = end_fault left
+fault_in (Token kind rest) left =
+    option_or (first_fault (takes kind) (why_not kind) left) (fault_in (rest (value_of kind (first_token left))) (behind left))
 
 -- the same behind the first word of a row
 unfoldable pub row_fault : Row → Left → Option Fault
-row_fault row left = fault_in (row.kinds left) left
+row_fault row left = fault_in row.shape left
 
 -- the fault of what stands behind the first word; a first word that has no row is the fault itself, at place 1
 abbrev pub fault_by : Option Row → Left → Option Fault
@@ -91,8 +94,13 @@ Reads (Ok command) wanted = command.line ≡ wanted
 Reads (Err (faults.BadLine place reason)) wanted = ⊥
 Reads (Err faults.NoMemory) wanted = Unit {0}
 
--- The answer is what the tokens behind the first word of a row ask for: their line and the nodes of which it asks something; or it tells
--- their first fault.
+-- The answer is what the tokens behind the first word of a row ask for: their line and the nodes of which it asks
+-- something; or it tells their first fault.
 abbrev pub IsRead : Row → Left → Result Command LineFault → Type 0
 IsRead row left result =
-    Tells result (row_fault row left) × IfOk result (λ c. (c.line ≡ row.asks left) × (c.nodes ≡ row_nodes row left))
+    Tells result (row_fault row left) × IfOk result (λ c. (c.line ≡ line_in row.shape left) × (c.nodes ≡ nodes_in row.shape left))
+
+-- likewise behind a first word, which may have no row
+abbrev pub IsReadBy : Option Row → Left → Result Command LineFault → Type 0
+IsReadBy row left result =
+    Tells result (fault_by row left) × IfOk result (λ c. (c.line ≡ asked_by row left) × (c.nodes ≡ nodes_by row left))

@@ -1,221 +1,195 @@
--- The grammar of a line: a row for each first word, with what the tokens behind that word have to be, and
--- what the line asks for.
-use Rattle.std.specs.Prelude.{ℕ, List, [], ◌∷◌, ◌++◌, Option, Some, None, codes, true, false, if◌then◌else◌}
+-- The grammar of a line: a row for each first word, with the kinds of the tokens behind that word, and what a line with
+-- these values asks for.
+use Rattle.std.specs.Prelude.{◌≡◌, ℕ, nat_le, List, [], ◌∷◌, Option, Some, None, codes, true, if◌then◌else◌}
 use Rattle.std.specs.Str.{bytes_eq}
-use Rattle.tipc_script.specs.declared.lines.Destination.{Destination}
-use Rattle.tipc_script.specs.declared.lines.Destination.TheVariants as destination
+use Rattle.tipc_types.specs.declared.node_calls.EventNote.{EventNote}
+use Rattle.tipc_types.specs.declared.node_calls.EventNote.TheVariants as call
+use Rattle.tipc_types.specs.declared.node_calls.Subscription.{Subscription}
+use Rattle.tipc_types.specs.declared.services.Scope.{Scope}
+use Rattle.tipc_script.specs.declared.lines.Filter.{Filter}
+use Rattle.tipc_script.specs.declared.lines.Filter.TheVariants as filter
 use Rattle.tipc_script.specs.declared.lines.Line.{Line}
 use Rattle.tipc_script.specs.declared.lines.Line.TheVariants as line
 use Rattle.tipc_script.specs.declared.lines.NodeToken.{NodeToken}
 use Rattle.tipc_script.specs.declared.lines.SendForm.{SendForm}
 use Rattle.tipc_script.specs.declared.lines.SendForm.TheVariants as form
 use Rattle.tipc_script.specs.Splitting.{Left, whole, first_token, behind}
-use Rattle.tipc_script.specs.Kinds.{Kind, NewNode, OldNode, AnyNode, BearerNumber, AnyNumber, FrameNumber, RoundsNumber, TimesNumber, SendWord, FormWord, ScopeWord, FilterWord, ImportanceWord, BodyText, body_of, filter_of, form_of, importance_of, is_remark, number_of, scope_of}
-use Rattle.tipc_script.specs.Spelling.{port_at}
+use Rattle.tipc_script.specs.Kinds.{Kind, NewNode, OldNode, AnyNode, BearerNumber, AnyNumber, FrameNumber, RoundsNumber, TimesNumber, SendWord, FormWord, ScopeWord, FilterWord, ImportanceWord, BodyText, is_remark}
+use Rattle.tipc_script.specs.Spelling.{port_at, spaced}
+use Rattle.tipc_script.specs.Shapes.{Behind, Ends, Shape, Spells, line_in, nodes_in, shape_of}
 
--- A row. What is left behind the first word tells which form the line has, and so of which kinds its tokens have to be.
+-- a row: a first word, and what stands behind it
 pub record Row : Type 0 where
   pub word : List ℕ
-  pub kinds : Left → List Kind
-  pub asks : Left → Line
+  pub shape : Shape
 
--- the number that the first token stands for
-abbrev pub first_number : Left → ℕ
-first_number left = number_of (first_token left)
+-- a row whose tokens are of these kinds, where their values give what is asked for
+abbrev pub row_for : List ℕ → (kinds : List Kind) → Behind kinds → Row
+row_for word kinds rest = record { word = word; shape = shape_of kinds rest }
+
+-- a node is called
+abbrev pub calls : ℕ → EventNote → Shape
+calls node call = Ends (line.Call node call)
+
+-- a node is called with the instances from one to another, where there are any
+abbrev pub calls_in_range : ℕ → ℕ → ℕ → EventNote → Shape
+calls_in_range lower upper node call = Ends (if nat_le lower upper then line.Call node call else line.BadRange node)
 
 -- `node n`: makes node n, which isn't there yet
 abbrev pub node_row : Row
-node_row = record { word = codes "node"; kinds = λ left. NewNode ∷ []; asks = λ node. line.Node (first_number node) }
+node_row = row_for (codes "node") (NewNode ∷ []) (λ node. Ends (line.Node node))
 
 -- `mend n x`: mends bearer x of node n
 abbrev pub mend_row : Row
-mend_row = record { word = codes "mend"; kinds = λ left. OldNode ∷ BearerNumber ∷ []; asks = λ node. line.Mend (first_number node) (first_number (behind node)) }
+mend_row = row_for (codes "mend") (OldNode ∷ BearerNumber ∷ []) (λ node bearer. calls node (call.Mend bearer))
 
 -- `cut n x`: cuts bearer x of node n
 abbrev pub cut_row : Row
-cut_row = record { word = codes "cut"; kinds = λ left. OldNode ∷ BearerNumber ∷ []; asks = λ node. line.Cut (first_number node) (first_number (behind node)) }
+cut_row = row_for (codes "cut") (OldNode ∷ BearerNumber ∷ []) (λ node bearer. calls node (call.Cut bearer))
 
 -- `tick n`: a tick passes at node n
 abbrev pub tick_row : Row
-tick_row = record { word = codes "tick"; kinds = λ left. OldNode ∷ []; asks = λ node. line.Tick (first_number node) }
+tick_row = row_for (codes "tick") (OldNode ∷ []) (λ node. calls node call.Tick)
 
 -- `restart n`: begins the next boot of node n
 abbrev pub restart_row : Row
-restart_row = record { word = codes "restart"; kinds = λ left. OldNode ∷ []; asks = λ node. line.Restart (first_number node) }
+restart_row = row_for (codes "restart") (OldNode ∷ []) (λ node. Ends (line.Restart node))
 
 -- `link a b x`: bearer x is mended at nodes a and b where it is cut, and the frames that this sends arrive at the two
 abbrev pub link_row : Row
-link_row = record {
-  word = codes "link";
-  kinds = λ left. OldNode ∷ OldNode ∷ BearerNumber ∷ [];
-  asks = λ first. let second = behind first in let bearer = behind second in line.Link (first_number first) (first_number second) (first_number bearer);
-}
+link_row = row_for (codes "link") (OldNode ∷ OldNode ∷ BearerNumber ∷ []) (λ first second bearer. Ends (line.Link first second bearer))
 
 -- `mark`: places of frames count from here on
 abbrev pub mark_row : Row
-mark_row = record { word = codes "mark"; kinds = λ left. []; asks = λ left. line.Mark }
+mark_row = row_for (codes "mark") [] (Ends line.Mark)
 
 -- `socket n`: makes a socket at node n
 abbrev pub socket_row : Row
-socket_row = record { word = codes "socket"; kinds = λ left. OldNode ∷ []; asks = λ node. line.Socket (first_number node) }
+socket_row = row_for (codes "socket") (OldNode ∷ []) (λ node. calls node call.Socket)
 
 -- `close n p`: closes the socket of port p at node n
 abbrev pub close_row : Row
-close_row = record { word = codes "close"; kinds = λ left. OldNode ∷ AnyNumber ∷ []; asks = λ node. line.Close (first_number node) (first_number (behind node)) }
+close_row = row_for (codes "close") (OldNode ∷ AnyNumber ∷ []) (λ node port. calls node (call.Close port))
+
+-- the call that offers a range of instances of a service type
+abbrev pub offering : ℕ → ℕ → ℕ → ℕ → Scope → ℕ → EventNote
+offering port kind lower upper scope key = call.Publish port (record { kind = kind; lower = lower; upper = upper }) scope key
 
 -- `publish n p type lower upper scope key`: port p of node n offers a range of instances of a service type
 abbrev pub publish_row : Row
-publish_row = record {
-  word = codes "publish";
-  kinds = λ left. OldNode ∷ AnyNumber ∷ AnyNumber ∷ AnyNumber ∷ AnyNumber ∷ ScopeWord ∷ AnyNumber ∷ [];
-  asks = λ node.
-      let port = behind node in let kind = behind port in let lower = behind kind in let upper = behind lower in let scope = behind upper in let key = behind scope in
-      line.Publish (first_number node) (first_number port) (first_number kind) (first_number lower) (first_number upper) (scope_of (first_token scope)) (first_number key);
-}
+publish_row =
+    row_for (codes "publish") (OldNode ∷ AnyNumber ∷ AnyNumber ∷ AnyNumber ∷ AnyNumber ∷ ScopeWord ∷ AnyNumber ∷ [])
+    (λ node port kind lower upper scope key. calls_in_range lower upper node (offering port kind lower upper scope key))
 
 -- `withdraw n p key`: port p of node n no longer offers the publication of this key
 abbrev pub withdraw_row : Row
-withdraw_row = record {
-  word = codes "withdraw";
-  kinds = λ left. OldNode ∷ AnyNumber ∷ AnyNumber ∷ [];
-  asks = λ node. let port = behind node in let key = behind port in line.Withdraw (first_number node) (first_number port) (first_number key);
-}
+withdraw_row = row_for (codes "withdraw") (OldNode ∷ AnyNumber ∷ AnyNumber ∷ []) (λ node port key. calls node (call.Withdraw port key))
+
+-- the number of a filter
+abbrev pub filter_number : Filter → ℕ
+filter_number filter.Ports = 1
+filter_number filter.Service = 2
+
+-- the handle of a script's subscribers
+abbrev pub no_handle : List ℕ
+no_handle = 0 ∷ 0 ∷ 0 ∷ 0 ∷ 0 ∷ 0 ∷ 0 ∷ 0 ∷ []
+
+-- what a line subscribes to
+abbrev pub wished : ℕ → ℕ → ℕ → ℕ → Filter → Subscription
+wished kind lower upper timeout filter =
+    record { range_kind = kind; lower = lower; upper = upper; timeout = timeout; filter = filter_number filter; handle = no_handle }
 
 -- `subscribe n type lower upper timeout filter`: begins a subscription at node n, which lasts so many ticks
 abbrev pub subscribe_row : Row
-subscribe_row = record {
-  word = codes "subscribe";
-  kinds = λ left. OldNode ∷ AnyNumber ∷ AnyNumber ∷ AnyNumber ∷ AnyNumber ∷ FilterWord ∷ [];
-  asks = λ node.
-      let kind = behind node in let lower = behind kind in let upper = behind lower in let timeout = behind upper in let filter = behind timeout in
-      line.Subscribe (first_number node) (first_number kind) (first_number lower) (first_number upper) (first_number timeout) (filter_of (first_token filter));
-}
+subscribe_row =
+    row_for (codes "subscribe") (OldNode ∷ AnyNumber ∷ AnyNumber ∷ AnyNumber ∷ AnyNumber ∷ FilterWord ∷ [])
+    (λ node kind lower upper timeout filter. calls_in_range lower upper node (call.Subscribe (wished kind lower upper timeout filter)))
 
 -- `event n s`: takes the next event of subscription s of node n
 abbrev pub event_row : Row
-event_row = record { word = codes "event"; kinds = λ left. OldNode ∷ AnyNumber ∷ []; asks = λ node. line.Event (first_number node) (first_number (behind node)) }
+event_row = row_for (codes "event") (OldNode ∷ AnyNumber ∷ []) (λ node number. calls node (call.NextEvent number))
 
 -- `cancel n s`: ends subscription s of node n
 abbrev pub cancel_row : Row
-cancel_row = record { word = codes "cancel"; kinds = λ left. OldNode ∷ AnyNumber ∷ []; asks = λ node. line.Cancel (first_number node) (first_number (behind node)) }
+cancel_row = row_for (codes "cancel") (OldNode ∷ AnyNumber ∷ []) (λ node number. calls node (call.Cancel number))
 
--- the form of the destination in a line that sends, from its first number on
-abbrev pub sent_form : Left → SendForm
-sent_form node = form_of (first_token (behind (behind node)))
+-- a node is called to send a message: once, or up to so many times
+abbrev pub sent_line : Option ℕ → ℕ → EventNote → Line
+sent_line None node call = line.Call node call
+sent_line (Some times) node call = line.Repeat times node call
 
--- what the tokens have to be behind the word `name`: the service type, the instance, the importance and the body
-abbrev pub name_kinds : List Kind
-name_kinds = AnyNumber ∷ AnyNumber ∷ ImportanceWord ∷ BodyText ∷ []
+-- what stands behind the word that tells the form of a destination: for `name` the service type and the instance, for
+-- `port` the node and its port, for `cast` the service type and the bounds, and for each the importance and the body
+abbrev pub sends_by : SendForm → Option ℕ → ℕ → ℕ → Shape
+sends_by form.Name times node port =
+    shape_of (AnyNumber ∷ AnyNumber ∷ ImportanceWord ∷ BodyText ∷ [])
+    (λ kind instance importance body. Ends (sent_line times node (call.SendName port kind instance importance body)))
+sends_by form.Port times node port =
+    shape_of (AnyNode ∷ AnyNumber ∷ ImportanceWord ∷ BodyText ∷ [])
+    (λ to_node to_port importance body. Ends (sent_line times node (call.SendPort port (port_at to_node to_port) importance body)))
+sends_by form.Cast times node port =
+    shape_of (AnyNumber ∷ AnyNumber ∷ AnyNumber ∷ ImportanceWord ∷ BodyText ∷ [])
+    (λ kind lower upper importance body. Ends (sent_line times node (call.Multicast port kind lower upper importance body)))
 
--- what the tokens have to be behind the word `port`: the node, its port, the importance and the body
-abbrev pub port_kinds : List Kind
-port_kinds = AnyNode ∷ AnyNumber ∷ ImportanceWord ∷ BodyText ∷ []
+-- what stands behind `send`: the node, its port, the form of the destination, and what follows that form
+abbrev pub sending : Option ℕ → Shape
+sending times = shape_of (OldNode ∷ AnyNumber ∷ FormWord ∷ []) (λ node port by. sends_by by times node port)
 
--- what the tokens have to be behind the word `cast`: the service type, the bounds, the importance and the body
-abbrev pub cast_kinds : List Kind
-cast_kinds = AnyNumber ∷ AnyNumber ∷ AnyNumber ∷ ImportanceWord ∷ BodyText ∷ []
-
--- what the tokens have to be behind the word that tells the form
-abbrev pub kinds_behind : SendForm → List Kind
-kinds_behind form.Name = name_kinds
-kinds_behind form.Port = port_kinds
-kinds_behind form.Cast = cast_kinds
-
--- what the tokens of a line that sends have to be behind `send`: the node, its port, the form, and what follows that
--- form
-abbrev pub send_kinds : Left → List Kind
-send_kinds node = OldNode ∷ AnyNumber ∷ FormWord ∷ kinds_behind (sent_form node)
-
--- whom a message is for, by the numbers behind the word that tells the form
-abbrev pub destination_in : SendForm → Left → Destination
-destination_in form.Name first = destination.Name (first_number first) (first_number (behind first))
-destination_in form.Port first = destination.Port (port_at (first_number first) (first_number (behind first)))
-destination_in form.Cast first = destination.Cast (first_number first) (first_number (behind first)) (first_number (behind (behind first)))
-
--- what is left behind these numbers
-abbrev pub behind_destination : SendForm → Left → Left
-behind_destination form.Name first = behind (behind first)
-behind_destination form.Port first = behind (behind first)
-behind_destination form.Cast first = behind (behind (behind first))
-
--- a line that sends from a port of a node, with the tokens behind the word that tells the form
-abbrev pub sent : ℕ → ℕ → SendForm → Left → Line
-sent node port form to =
-    let importance = behind_destination form to in
-    line.Send node port (destination_in form to) (importance_of (first_token importance)) (body_of (first_token (behind importance)))
-
--- `send n p port m q importance body`, `send n p name type instance importance body`, `send n p cast type lower upper importance body`:
--- sends a message from port p of node n
+-- `send n p port m q importance body`, `send n p name type instance importance body`,
+-- `send n p cast type lower upper importance body`: sends a message from port p of node n
 abbrev pub send_row : Row
-send_row = record { word = codes "send"; kinds = send_kinds; asks = λ node. sent (first_number node) (first_number (behind node)) (sent_form node) (behind (behind (behind node))) }
-
--- the same line again and again
-abbrev pub again : ℕ → Line → Line
-again times (line.Send node port to importance body) = line.Repeat times node port to importance body
-again times other = other
+send_row = record { word = codes "send"; shape = sending None }
 
 -- `repeat c send ..`: sends that message up to c times
 abbrev pub repeat_row : Row
-repeat_row = record {
-  word = codes "repeat";
-  kinds = λ times. TimesNumber ∷ SendWord ∷ send_kinds (behind (behind times));
-  asks = λ times. again (first_number times) (send_row.asks (behind (behind times)));
-}
+repeat_row = row_for (codes "repeat") (TimesNumber ∷ SendWord ∷ []) (λ times send. sending (Some times))
 
 -- `arrive n x k`: frame k of bearer x arrives at node n
 abbrev pub arrive_row : Row
-arrive_row = record {
-  word = codes "arrive";
-  kinds = λ left. OldNode ∷ BearerNumber ∷ FrameNumber ∷ [];
-  asks = λ node. let bearer = behind node in let frame = behind bearer in line.Arrive (first_number node) (first_number bearer) (first_number frame);
-}
+arrive_row = row_for (codes "arrive") (OldNode ∷ BearerNumber ∷ FrameNumber ∷ []) (λ node bearer frame. Ends (line.Arrive node bearer frame))
 
 -- `receive n p`: takes the next message of port p at node n
 abbrev pub receive_row : Row
-receive_row = record { word = codes "receive"; kinds = λ left. OldNode ∷ AnyNumber ∷ []; asks = λ node. line.Receive (first_number node) (first_number (behind node)) }
+receive_row = row_for (codes "receive") (OldNode ∷ AnyNumber ∷ []) (λ node port. calls node (call.Receive port))
 
 -- `drain n p`: takes all messages of port p at node n
 abbrev pub drain_row : Row
-drain_row = record { word = codes "drain"; kinds = λ left. OldNode ∷ AnyNumber ∷ []; asks = λ node. line.Drain (first_number node) (first_number (behind node)) }
+drain_row = row_for (codes "drain") (OldNode ∷ AnyNumber ∷ []) (λ node port. Ends (line.Drain node port))
 
 -- `burst n p m q c body`: sends a message from port p of node n to port q of node m, lets frames arrive and receives
 -- it, up to c times
 abbrev pub burst_row : Row
-burst_row = record {
-  word = codes "burst";
-  kinds = λ left. OldNode ∷ AnyNumber ∷ OldNode ∷ AnyNumber ∷ TimesNumber ∷ BodyText ∷ [];
-  asks = λ node.
-      let port = behind node in let to = behind port in let at = behind to in let times = behind at in let body = behind times in
-      line.Burst (first_number node) (first_number port) (first_number to) (first_number at) (first_number times) (body_of (first_token body));
-}
+burst_row =
+    row_for (codes "burst") (OldNode ∷ AnyNumber ∷ OldNode ∷ AnyNumber ∷ TimesNumber ∷ BodyText ∷ [])
+    (λ node port to_node to_port times body. Ends (line.Burst node port to_node to_port times body))
 
 -- `pump x`: lets the frames of bearer x arrive
 abbrev pub pump_row : Row
-pump_row = record { word = codes "pump"; kinds = λ left. BearerNumber ∷ []; asks = λ bearer. line.Pump (first_number bearer) }
+pump_row = row_for (codes "pump") (BearerNumber ∷ []) (λ bearer. Ends (line.Pump bearer))
 
 -- `settle r`: lets r rounds of ticks and arrivals pass
 abbrev pub settle_row : Row
-settle_row = record { word = codes "settle"; kinds = λ left. RoundsNumber ∷ []; asks = λ rounds. line.Settle (first_number rounds) }
+settle_row = row_for (codes "settle") (RoundsNumber ∷ []) (λ rounds. Ends (line.Settle rounds))
 
 -- `air x`: tells how many frames were sent on bearer x
 abbrev pub air_row : Row
-air_row = record { word = codes "air"; kinds = λ left. BearerNumber ∷ []; asks = λ bearer. line.Air (first_number bearer) }
+air_row = row_for (codes "air") (BearerNumber ∷ []) (λ bearer. Ends (line.Air bearer))
 
 -- `show x k`: shows frame k of bearer x
 abbrev pub show_row : Row
-show_row = record { word = codes "show"; kinds = λ left. BearerNumber ∷ FrameNumber ∷ []; asks = λ bearer. line.Show (first_number bearer) (first_number (behind bearer)) }
+show_row = row_for (codes "show") (BearerNumber ∷ FrameNumber ∷ []) (λ bearer frame. Ends (line.Show bearer frame))
 
 -- `links n`: tells the link ends of node n
 abbrev pub links_row : Row
-links_row = record { word = codes "links"; kinds = λ left. OldNode ∷ []; asks = λ node. line.Links (first_number node) }
+links_row = row_for (codes "links") (OldNode ∷ []) (λ node. Ends (line.Links node))
 
 -- `table n`: tells which services node n knows
 abbrev pub table_row : Row
-table_row = record { word = codes "table"; kinds = λ left. OldNode ∷ []; asks = λ node. line.Table (first_number node) }
+table_row = row_for (codes "table") (OldNode ∷ []) (λ node. Ends (line.Table node))
 
 -- `flow a b`: counts the messages from node a to node b in their contact
 abbrev pub flow_row : Row
-flow_row = record { word = codes "flow"; kinds = λ left. OldNode ∷ OldNode ∷ []; asks = λ from. line.Flow (first_number from) (first_number (behind from)) }
+flow_row = row_for (codes "flow") (OldNode ∷ OldNode ∷ []) (λ from to. Ends (line.Flow from to))
 
 -- the rows of lines about frames and links
 abbrev pub frame_rows : List Row
@@ -246,45 +220,27 @@ row_among (row ∷ rows) word = if bytes_eq word row.word then Some row else row
 unfoldable pub row_of : List ℕ → Option Row
 row_of word = row_among rows word
 
+-- A text asks for a line: it is a remark, which asks for nothing; or it is the first word of a row, and words that are
+-- spelled in the shape behind that word, with single spaces between them.
+pub data Asks (text : List ℕ) : Line → Type 0 where
+  by_remark : is_remark text ≡ true → Asks text line.Nothing
+  by_row : (row : Row) (words : List (List ℕ)) (wanted : Line)
+      → row_of row.word ≡ Some row → text ≡ spaced (row.word ∷ words) → Spells row.shape words wanted
+      → Asks text wanted
+
 -- what the tokens behind a first word ask for; a first word that has no row asks for nothing
 abbrev pub asked_by : Option Row → Left → Line
 asked_by None left = line.Nothing
-asked_by (Some row) left = row.asks left
+asked_by (Some row) left = line_in row.shape left
 
 -- what a line asks for
 unfoldable pub asked : List ℕ → Line
 asked text = if is_remark text then line.Nothing else asked_by (row_of (first_token (whole text))) (behind (whole text))
 
--- the node that a token names, where something is asked of it
-abbrev pub node_in : Kind → Left → List NodeToken
-node_in NewNode left = record { place = left.place; node = first_number left; there = false } ∷ []
-node_in OldNode left = record { place = left.place; node = first_number left; there = true } ∷ []
-node_in AnyNode left = []
-node_in BearerNumber left = []
-node_in AnyNumber left = []
-node_in FrameNumber left = []
-node_in RoundsNumber left = []
-node_in TimesNumber left = []
-node_in SendWord left = []
-node_in FormWord left = []
-node_in ScopeWord left = []
-node_in FilterWord left = []
-node_in ImportanceWord left = []
-node_in BodyText left = []
-
--- the nodes that tokens of these kinds name, from the left
-abbrev pub nodes_in : List Kind → Left → List NodeToken
-nodes_in [] left = []
-nodes_in (kind ∷ kinds) left = node_in kind left ++ nodes_in kinds (behind left)
-
--- the nodes behind the first word of a row
-abbrev pub row_nodes : Row → Left → List NodeToken
-row_nodes row left = nodes_in (row.kinds left) left
-
 -- the nodes behind a first word; none where it has no row
 abbrev pub nodes_by : Option Row → Left → List NodeToken
 nodes_by None left = []
-nodes_by (Some row) left = row_nodes row left
+nodes_by (Some row) left = nodes_in row.shape left
 
 -- the nodes that a line asks something of, from the left
 unfoldable pub nodes_of : List ℕ → List NodeToken

@@ -7,6 +7,7 @@ use crate::faults::LineFault;
 use crate::lines::{Command, Line};
 use crate::tokens::{HIGHEST_NUMBER, Tokens};
 use std::alloc::Global;
+use tipc_types::EventNote;
 
 /// The highest number of a frame.
 const HIGHEST_FRAME: u32 = 1_000_000;
@@ -36,11 +37,10 @@ pub fn mend_line(alloc: Global, tokens: &mut Tokens<'_>) -> Result<Command, Line
     let node = tokens.node(true)?;
     let bearer = tokens.number(0, HIGHEST_BEARER)?;
     tokens.finish()?;
-    let line = Line::Mend {
-        node: node.node,
+    let call = EventNote::Mend {
         bearer: bearer as u8,
     };
-    Command::new(alloc, line, &[node])
+    Command::call(alloc, node, call)
 }
 
 /// What follows `cut`.
@@ -51,11 +51,10 @@ pub fn cut_line(alloc: Global, tokens: &mut Tokens<'_>) -> Result<Command, LineF
     let node = tokens.node(true)?;
     let bearer = tokens.number(0, HIGHEST_BEARER)?;
     tokens.finish()?;
-    let line = Line::Cut {
-        node: node.node,
+    let call = EventNote::Cut {
         bearer: bearer as u8,
     };
-    Command::new(alloc, line, &[node])
+    Command::call(alloc, node, call)
 }
 
 /// What follows `tick`.
@@ -65,8 +64,7 @@ pub fn tick_line(alloc: Global, tokens: &mut Tokens<'_>) -> Result<Command, Line
 {
     let node = tokens.node(true)?;
     tokens.finish()?;
-    let line = Line::Tick { node: node.node };
-    Command::new(alloc, line, &[node])
+    Command::call(alloc, node, EventNote::Tick)
 }
 
 /// What follows `restart`.
@@ -114,8 +112,7 @@ pub fn socket_line(alloc: Global, tokens: &mut Tokens<'_>) -> Result<Command, Li
 {
     let node = tokens.node(true)?;
     tokens.finish()?;
-    let line = Line::Socket { node: node.node };
-    Command::new(alloc, line, &[node])
+    Command::call(alloc, node, EventNote::Socket)
 }
 
 /// What follows `arrive`.
@@ -143,11 +140,7 @@ pub fn receive_line(alloc: Global, tokens: &mut Tokens<'_>) -> Result<Command, L
     let node = tokens.node(true)?;
     let port = tokens.number(0, HIGHEST_NUMBER)?;
     tokens.finish()?;
-    let line = Line::Receive {
-        node: node.node,
-        port,
-    };
-    Command::new(alloc, line, &[node])
+    Command::call(alloc, node, EventNote::Receive { port })
 }
 
 /// What follows `drain`.

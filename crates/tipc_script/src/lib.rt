@@ -19,6 +19,6 @@ mod tokens;
 
 pub use body::is_visible;
 pub use faults::{LineFault, LineWhy};
-pub use lines::{Command, Destination, Filter, Line, NodeToken};
+pub use lines::{Command, Line, NodeToken, SendForm};
 pub use numbers::number_in;
-pub use parsing::{grammar, parse_line};
+pub use parsing::{grammar, is_remark, parse_line};

@@ -1,37 +1,14 @@
 //! What a line of a script asks for.
 
-ghost use Rattle.std.specs.Prelude.{◌≡◌, IfErr, IfOk};
+ghost use Rattle.std.specs.Prelude.{◌≡◌, ◌∷◌, [], IfErr, IfOk};
 
 use crate::faults::LineFault;
 use std::alloc::Global;
-use tipc_types::{Body, Importance, PortId, Scope, Sequence};
-
-/// Whom a message is for.
-#[derive(Clone, Copy, Debug, PartialEq, Eq)]
-pub enum Destination {
-    /// A port of a node, which may be the sending one.
-    Port(PortId),
-    /// Whoever offers a service.
-    Name {
-        /// The service type.
-        kind: u32,
-        /// The instance.
-        instance: u32,
-    },
-    /// All who offer an instance of a range of a service.
-    Cast {
-        /// The service type.
-        kind: u32,
-        /// The lowest instance, which may be above the highest: then there is no such range.
-        lower: u32,
-        /// The highest instance.
-        upper: u32,
-    },
-}
+use tipc_types::{Body, EventNote, Sequence};
 
 /// How a line that sends tells whom its message is for.
 #[derive(Clone, Copy, Debug, PartialEq, Eq)]
-pub(crate) enum SendForm {
+pub enum SendForm {
     /// By the name of a service.
     Name,
     /// By a port of a node.
@@ -42,7 +19,7 @@ pub(crate) enum SendForm {
 
 /// Of which changes a subscriber is told. (Programmer's guide.)
 #[derive(Clone, Copy, Debug, PartialEq, Eq)]
-pub enum Filter {
+pub(crate) enum Filter {
     /// Of each publication and each withdrawal.
     Ports,
     /// Of the first publication and the last withdrawal of each distinct range.
@@ -60,22 +37,24 @@ pub enum Line {
         /// The node.
         node: u8,
     },
-    /// A bearer is to be mended at a node.
-    Mend {
+    /// A node is called.
+    Call {
         /// The node.
         node: u8,
-        /// The bearer.
-        bearer: u8,
+        /// The call.
+        call: EventNote,
     },
-    /// A bearer is to be cut at a node.
-    Cut {
+    /// A node is called again and again, until a message isn't sent.
+    Repeat {
+        /// How many times at most, from 1 to 1,000,000.
+        times: u32,
         /// The node.
         node: u8,
-        /// The bearer.
-        bearer: u8,
+        /// The call, which sends a message.
+        call: EventNote,
     },
-    /// Time goes on by one tick at a node.
-    Tick {
+    /// A node would be called with a range that has no instance: the lowest is above the highest.
+    BadRange {
         /// The node.
         node: u8,
     },
@@ -95,101 +74,6 @@ pub enum Line {
     },
     /// Frames are counted from here on.
     Mark,
-    /// A socket.
-    Socket {
-        /// The node that makes it.
-        node: u8,
-    },
-    /// A socket is to be closed.
-    Close {
-        /// The node.
-        node: u8,
-        /// The socket's port.
-        port: u32,
-    },
-    /// A service is to be offered.
-    Publish {
-        /// The node.
-        node: u8,
-        /// The port that offers it.
-        port: u32,
-        /// The service type.
-        kind: u32,
-        /// The lowest instance, which may be above the highest: then there is no such range.
-        lower: u32,
-        /// The highest instance.
-        upper: u32,
-        /// Who sees it.
-        scope: Scope,
-        /// The publisher's key.
-        key: u32,
-    },
-    /// A service is no longer to be offered.
-    Withdraw {
-        /// The node.
-        node: u8,
-        /// The port that offered it.
-        port: u32,
-        /// The publication's key.
-        key: u32,
-    },
-    /// A service range is to be subscribed to.
-    Subscribe {
-        /// The node.
-        node: u8,
-        /// The service type.
-        kind: u32,
-        /// The lowest instance, which may be above the highest: then there is no such range.
-        lower: u32,
-        /// The highest instance.
-        upper: u32,
-        /// After how many ticks the subscription times out; the greatest number lasts for ever.
-        timeout: u32,
-        /// Of which changes the subscriber is told.
-        filter: Filter,
-    },
-    /// The next event of a subscription is taken.
-    Event {
-        /// The node.
-        node: u8,
-        /// The subscription's number.
-        number: u32,
-    },
-    /// A subscription is to be cancelled.
-    Cancel {
-        /// The node.
-        node: u8,
-        /// The subscription's number.
-        number: u32,
-    },
-    /// A message to a port, by name, or to all of a range.
-    Send {
-        /// The sending node.
-        node: u8,
-        /// The sending port.
-        port: u32,
-        /// Whom it is for.
-        to: Destination,
-        /// How important it is.
-        importance: Importance,
-        /// The user's bytes.
-        body: Body,
-    },
-    /// The same, again and again until one isn't sent.
-    Repeat {
-        /// How many times at most, from 1 to 1,000,000.
-        times: u32,
-        /// The sending node.
-        node: u8,
-        /// The sending port.
-        port: u32,
-        /// Whom it is for.
-        to: Destination,
-        /// How important it is.
-        importance: Importance,
-        /// The user's bytes.
-        body: Body,
-    },
     /// A frame arrives.
     Arrive {
         /// The node that it arrives at.
@@ -198,13 +82,6 @@ pub enum Line {
         bearer: u8,
         /// The frame's number since the last mark, from 0 to 1,000,000.
         frame: u64,
-    },
-    /// A message is taken from a socket.
-    Receive {
-        /// The node.
-        node: u8,
-        /// The socket's port.
-        port: u32,
     },
     /// Messages are taken from a socket until none is left.
     Drain {
@@ -218,7 +95,8 @@ pub enum Line {
         /// The bearer.
         bearer: u8,
     },
-    /// A message of low importance is sent, frames are pumped and a message is taken, again and again until no message came.
+    /// A message of low importance is sent, frames are pumped and a message is taken, again and again until no message
+    /// came.
     Burst {
         /// The sending node.
         node: u8,
@@ -299,5 +177,21 @@ impl Command {
             line,
             nodes: Sequence::from_slice(alloc, nodes)?,
         })
+    }
+
+    /// A line that calls a node.
+    pub(crate) fn call(
+        alloc: Global,
+        node: NodeToken,
+        call: EventNote,
+    ) -> Result<Command, LineFault>
+        ensures ok { IfOk result (λ c. (c.line ≡ Line.Call node.node call) × (c.nodes ≡ node ∷ [])) }
+        ensures err { IfErr result (λ fault. fault ≡ LineFault.NoMemory) }
+    {
+        let line = Line::Call {
+            node: node.node,
+            call,
+        };
+        Command::new(alloc, line, &[node])
     }
 }

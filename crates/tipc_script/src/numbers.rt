@@ -47,7 +47,8 @@ fn number_spelled(token: &[u8]) -> Option<u64>
     digits_in(token)
 }
 
-/// The number from `low` to `high` that a token spells, in decimal digits without sign or leading zero; None where it spells none.
+/// The number from `low` to `high` that a token spells, in decimal digits without sign or leading zero; None where it
+/// spells none.
 pub fn number_in(token: &[u8], low: u32, high: u32) -> Option<u32>
     ensures value { result ≡ (if is_number low high token.now then Some (number_of token.now) else None) }
     ensures bounds { IfSome result (λ n. (low ≤ n) × (n ≤ high)) }

@@ -1,52 +1,66 @@
 //! The tokens behind the first words that send messages.
 
-ghost use Rattle.std.specs.Prelude.{◌≡◌, IfOk};
-ghost use Rattle.tipc_script.specs.Grammar.{burst_row, cast_kinds, kinds_behind, name_kinds, port_kinds, repeat_row, send_row, sent};
+ghost use Rattle.std.specs.Prelude.{◌≡◌, [], IfOk};
+ghost use Rattle.tipc_script.specs.Grammar.{burst_row, repeat_row, send_row, sending, sends_by, sent_line};
+ghost use Rattle.tipc_script.specs.Shapes.{line_in, nodes_in};
 ghost use Rattle.tipc_script.specs.Faults.{IsRead, Tells, fault_in};
 ghost use Rattle.tipc_script.specs.declared.lines.SendForm.{SendForm};
 
 use crate::faults::{LineFault, LineWhy};
-use crate::lines::{Command, Destination, Line, SendForm};
+use crate::lines::{Command, Line, SendForm};
 use crate::tokens::{HIGHEST_NUMBER, Tokens};
 use std::alloc::Global;
-use tipc_types::{Addr, PortId};
+use tipc_types::{Addr, EventNote, PortId};
 
 /// The most times that something is done again.
 const MOST_TIMES: u32 = 1_000_000;
 
-/// The rest of a line that sends a message by name from a port of a node.
+/// A call of a node that sends a message, once or up to so many times.
+fn sent_line(times: Option<u32>, node: u8, call: EventNote) -> Line
+    ensures { result ≡ sent_line times node call }
+{
+    match times {
+        None => Line::Call { node, call },
+        Some(times) => Line::Repeat { times, node, call },
+    }
+}
+
+/// The rest of a line that sends a message by name from a port of a node, once or up to so many times.
 fn send_by_name(
     alloc: Global,
+    times: Option<u32>,
     node: u8,
     port: u32,
     tokens: &mut Tokens<'_>,
 ) -> Result<Line, LineFault>
-    ensures fault { Tells result (fault_in name_kinds tokens.old) }
-    ensures line { IfOk result (λ l. l ≡ sent node port SendForm.Name tokens.old) }
+    ensures fault { Tells result (fault_in (sends_by SendForm.Name times node port) tokens.old) }
+    ensures line { IfOk result (λ l. l ≡ line_in (sends_by SendForm.Name times node port) tokens.old) }
 {
     let kind = tokens.number(0, HIGHEST_NUMBER)?;
     let instance = tokens.number(0, HIGHEST_NUMBER)?;
     let importance = tokens.importance()?;
     let body = tokens.body(alloc)?;
     tokens.finish()?;
-    Ok(Line::Send {
-        node,
+    let call = EventNote::SendName {
         port,
-        to: Destination::Name { kind, instance },
+        kind,
+        instance,
         importance,
         body,
-    })
+    };
+    Ok(sent_line(times, node, call))
 }
 
-/// The rest of a line that sends a message to a port from a port of a node.
+/// The rest of a line that sends a message to a port from a port of a node, once or up to so many times.
 fn send_to_port(
     alloc: Global,
+    times: Option<u32>,
     node: u8,
     port: u32,
     tokens: &mut Tokens<'_>,
 ) -> Result<Line, LineFault>
-    ensures fault { Tells result (fault_in port_kinds tokens.old) }
-    ensures line { IfOk result (λ l. l ≡ sent node port SendForm.Port tokens.old) }
+    ensures fault { Tells result (fault_in (sends_by SendForm.Port times node port) tokens.old) }
+    ensures line { IfOk result (λ l. l ≡ line_in (sends_by SendForm.Port times node port) tokens.old) }
 {
     let to_node = tokens.node_number()?;
     let to_port = tokens.number(0, HIGHEST_NUMBER)?;
@@ -57,25 +71,26 @@ fn send_to_port(
         node: Addr::node(to_node),
         port: to_port,
     };
-    Ok(Line::Send {
-        node,
+    let call = EventNote::SendPort {
         port,
-        to: Destination::Port(to),
+        to,
         importance,
         body,
-    })
+    };
+    Ok(sent_line(times, node, call))
 }
 
-/// The rest of a line that sends a message from a port of a node to all who offer an instance of a range. Whether the bounds are
-/// in order isn't looked at.
+/// The rest of a line that sends a message from a port of a node to all who offer an instance of a range, once or up to
+/// so many times. A range without instances is no fault.
 fn send_to_all(
     alloc: Global,
+    times: Option<u32>,
     node: u8,
     port: u32,
     tokens: &mut Tokens<'_>,
 ) -> Result<Line, LineFault>
-    ensures fault { Tells result (fault_in cast_kinds tokens.old) }
-    ensures line { IfOk result (λ l. l ≡ sent node port SendForm.Cast tokens.old) }
+    ensures fault { Tells result (fault_in (sends_by SendForm.Cast times node port) tokens.old) }
+    ensures line { IfOk result (λ l. l ≡ line_in (sends_by SendForm.Cast times node port) tokens.old) }
 {
     let kind = tokens.number(0, HIGHEST_NUMBER)?;
     let lower = tokens.number(0, HIGHEST_NUMBER)?;
@@ -83,31 +98,48 @@ fn send_to_all(
     let importance = tokens.importance()?;
     let body = tokens.body(alloc)?;
     tokens.finish()?;
-    Ok(Line::Send {
-        node,
+    let call = EventNote::Multicast {
         port,
-        to: Destination::Cast { kind, lower, upper },
+        kind,
+        lower,
+        upper,
         importance,
         body,
-    })
+    };
+    Ok(sent_line(times, node, call))
 }
 
 /// The rest of a line that sends a message from a port of a node, behind the word that tells the form.
 fn send_by(
     alloc: Global,
     form: SendForm,
+    times: Option<u32>,
     node: u8,
     port: u32,
     tokens: &mut Tokens<'_>,
 ) -> Result<Line, LineFault>
-    ensures fault { Tells result (fault_in (kinds_behind form) tokens.old) }
-    ensures line { IfOk result (λ l. l ≡ sent node port form tokens.old) }
+    ensures fault { Tells result (fault_in (sends_by form times node port) tokens.old) }
+    ensures line { IfOk result (λ l. l ≡ line_in (sends_by form times node port) tokens.old) }
+    ensures nodes { nodes_in (sends_by form times node port) tokens.old ≡ [] }
 {
     match form {
-        SendForm::Name => send_by_name(alloc, node, port, tokens),
-        SendForm::Port => send_to_port(alloc, node, port, tokens),
-        SendForm::Cast => send_to_all(alloc, node, port, tokens),
+        SendForm::Name => send_by_name(alloc, times, node, port, tokens),
+        SendForm::Port => send_to_port(alloc, times, node, port, tokens),
+        SendForm::Cast => send_to_all(alloc, times, node, port, tokens),
     }
+}
+
+/// What follows `send`, where the message is sent once or up to so many times.
+fn sending(alloc: Global, times: Option<u32>, tokens: &mut Tokens<'_>) -> Result<Command, LineFault>
+    ensures fault { Tells result (fault_in (sending times) tokens.old) }
+    ensures line { IfOk result (λ c. c.line ≡ line_in (sending times) tokens.old) }
+    ensures nodes { IfOk result (λ c. c.nodes ≡ nodes_in (sending times) tokens.old) }
+{
+    let node = tokens.node(true)?;
+    let port = tokens.number(0, HIGHEST_NUMBER)?;
+    let form = tokens.form()?;
+    let line = send_by(alloc, form, times, node.node, port, tokens)?;
+    Command::new(alloc, line, &[node])
 }
 
 /// What follows `send`.
@@ -115,11 +147,7 @@ fn send_by(
 pub fn send_line(alloc: Global, tokens: &mut Tokens<'_>) -> Result<Command, LineFault>
     ensures { IsRead send_row tokens.old result }
 {
-    let node = tokens.node(true)?;
-    let port = tokens.number(0, HIGHEST_NUMBER)?;
-    let form = tokens.form()?;
-    let line = send_by(alloc, form, node.node, port, tokens)?;
-    Command::new(alloc, line, &[node])
+    sending(alloc, None, tokens)
 }
 
 /// What follows `repeat`: how many times, and a line that sends.
@@ -129,28 +157,7 @@ pub fn repeat_line(alloc: Global, tokens: &mut Tokens<'_>) -> Result<Command, Li
 {
     let times = tokens.number(1, MOST_TIMES)?;
     tokens.word(b"send", LineWhy::Command)?;
-    let Command { line, nodes } = send_line(alloc, tokens)?;
-    let Line::Send {
-        node,
-        port,
-        to,
-        importance,
-        body,
-    } = line
-    else {
-        unreachable!();
-    };
-    Ok(Command {
-        line: Line::Repeat {
-            times,
-            node,
-            port,
-            to,
-            importance,
-            body,
-        },
-        nodes,
-    })
+    sending(alloc, Some(times), tokens)
 }
 
 /// What follows `burst`.

@@ -7,6 +7,7 @@ use crate::faults::LineFault;
 use crate::lines::{Command, Line};
 use crate::tokens::{HIGHEST_NUMBER, Tokens};
 use std::alloc::Global;
+use tipc_types::{EventNote, ServiceRange};
 
 /// What follows `close`.
 #[tactic(auto, unfolding(crate::specs::Faults::row_fault))]
@@ -16,14 +17,10 @@ pub fn close_line(alloc: Global, tokens: &mut Tokens<'_>) -> Result<Command, Lin
     let node = tokens.node(true)?;
     let port = tokens.number(0, HIGHEST_NUMBER)?;
     tokens.finish()?;
-    let line = Line::Close {
-        node: node.node,
-        port,
-    };
-    Command::new(alloc, line, &[node])
+    Command::call(alloc, node, EventNote::Close { port })
 }
 
-/// What follows `publish`. Whether the bounds are in order isn't looked at.
+/// What follows `publish`. A range without instances is no fault.
 #[tactic(auto, unfolding(crate::specs::Faults::row_fault))]
 pub fn publish_line(alloc: Global, tokens: &mut Tokens<'_>) -> Result<Command, LineFault>
     ensures { IsRead publish_row tokens.old result }
@@ -36,16 +33,16 @@ pub fn publish_line(alloc: Global, tokens: &mut Tokens<'_>) -> Result<Command, L
     let scope = tokens.scope()?;
     let key = tokens.number(0, HIGHEST_NUMBER)?;
     tokens.finish()?;
-    let line = Line::Publish {
-        node: node.node,
+    let Ok(range) = ServiceRange::new(kind, lower, upper) else {
+        return Command::new(alloc, Line::BadRange { node: node.node }, &[node]);
+    };
+    let call = EventNote::Publish {
         port,
-        kind,
-        lower,
-        upper,
+        range,
         scope,
         key,
     };
-    Command::new(alloc, line, &[node])
+    Command::call(alloc, node, call)
 }
 
 /// What follows `withdraw`.
@@ -57,10 +54,5 @@ pub fn withdraw_line(alloc: Global, tokens: &mut Tokens<'_>) -> Result<Command, 
     let port = tokens.number(0, HIGHEST_NUMBER)?;
     let key = tokens.number(0, HIGHEST_NUMBER)?;
     tokens.finish()?;
-    let line = Line::Withdraw {
-        node: node.node,
-        port,
-        key,
-    };
-    Command::new(alloc, line, &[node])
+    Command::call(alloc, node, EventNote::Withdraw { port, key })
 }

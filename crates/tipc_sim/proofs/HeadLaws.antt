@@ -12,11 +12,11 @@ use Rattle.tipc_sim.specs.declared.status.Status.{Status}
 use Rattle.tipc_sim.specs.declared.status.Status.TheVariants as status
 use Rattle.tipc_sim.specs.Happenings.{begin, scene}
 use Rattle.tipc_sim.specs.Noted.{no_notes}
-use Rattle.tipc_sim.specs.Output.{AppendsPart}
-use Rattle.tipc_sim.specs.Reports.{Ends, Reports, WritesReport}
+use Rattle.tipc_sim.specs.Output.{AppendsPart, WritesReport}
+use Rattle.tipc_sim.specs.Reports.{Ends, Reports}
 use Rattle.tipc_sim.specs.Steps.{IsWriteStatus}
 use Rattle.tipc_sim.proofs.ReportLaws.{sound_none}
-use Rattle.tipc_sim.proofs.RunLaws.{part_more}
+use Rattle.tipc_sim.proofs.OutputLaws.{part_more}
 use Rattle.tipc_world.proofs.Continuing.{grows_same}
 
 -- nothing was written yet of the line of a number

@@ -1,4 +1,5 @@
 pub mod CourseLaws
+pub mod DissectionLaws
 pub mod HeadLaws
 pub mod LineLaws
 pub mod ListLaws

@@ -12,9 +12,9 @@ use Rattle.tipc_script.specs.declared.lines.NodeToken.{NodeToken}
 use Rattle.tipc_script.specs.Kinds.{is_number}
 use Rattle.tipc_script.specs.Grammar.{asked, nodes_of, row_of}
 use Rattle.tipc_script.specs.Faults.{Fault, end_fault, fault_of, first_fault, row_fault}
-use Rattle.tipc_script.specs.Spelling.{spelling_of}
 use Rattle.tipc_load.specs.Clear.{AsksForOne, IsClear, IsOfFour, IsOneLine, has_no_newline}
 use Rattle.tipc_load.specs.Load.{first_nodes, generated, generated_lines, line_text, opening}
+use Rattle.tipc_load.specs.Spelling.{spelling_of}
 use Rattle.tipc_load.proofs.LoadLines.{length-generated_lines}
 use Rattle.tipc_load.proofs.Sound.{all_whole, clear_behind}
 use Rattle.tipc_world.specs.States.{WorldState}

@@ -1,9 +1,8 @@
 -- Messages that are sent and received again and again, step by step.
 use Rattle.std.proofs.Common.{◌≡◌, ℕ, ◌+◌, ◌<◌, ◌≤◌, Bool, true, List, Result, Ok, Err, refl, sym, ap, subst, ◌∙◌, inr, arith}
 use Rattle.tipc_types.specs.declared.node_calls.EventNote.TheVariants as call
-use Rattle.tipc_types.specs.declared.message_forms.Importance.{Importance}
+use Rattle.tipc_types.specs.declared.node_calls.EventNote.{EventNote}
 use Rattle.tipc_types.specs.declared.node_calls.Answer.{Answer}
-use Rattle.tipc_script.specs.declared.lines.Destination.{Destination}
 use Rattle.tipc_script.specs.declared.lines.Line.{Line}
 use Rattle.tipc_script.specs.declared.lines.Line.TheVariants.{Burst, Drain, Repeat}
 use Rattle.tipc_report.specs.declared.told.Told.{Told}
@@ -17,7 +16,7 @@ use Rattle.tipc_world.specs.declared.places.Places.{Places}
 use Rattle.tipc_world.specs.Courses.{Continues, Once}
 use Rattle.tipc_world.proofs.Continuing.{continues_more}
 use Rattle.tipc_sim.specs.Meanings.{Pumps}
-use Rattle.tipc_sim.specs.Happenings.{beside, sending, told_of, Conversed, Moves, Repeated}
+use Rattle.tipc_sim.specs.Happenings.{beside, told_of, Conversed, Moves, Repeated}
 use Rattle.tipc_sim.specs.Messages.{is_call, is_message, is_sent, low_message, Bursts, FollowsSending, PumpsAndReceives, PumpsBoth, ReceivesAll, Repeats, go_on, SendsAgain, Turn, MakesTurns}
 use Rattle.tipc_sim.specs.Noted.{NotesState}
 
@@ -72,19 +71,17 @@ turn_halts times send receive first start count places before now stop fewer mad
 
 -- a line of another kind than these three leaves everything as it is
 pub stays : (line : Line) (notes : NotesState) (w : WorldState) (given : Told)
-    → ((times node port : ℕ) (to : Destination) (importance : Importance) (body : List ℕ) → line ≡ Repeat times node port to importance body → ⊥) → ((node port : ℕ) → line ≡ Drain node port → ⊥)
+    → ((times node : ℕ) (call : EventNote) → line ≡ Repeat times node call → ⊥) → ((node port : ℕ) → line ≡ Drain node port → ⊥)
     → ((node port to_node to_port times : ℕ) (body : List ℕ) → line ≡ Burst node port to_node to_port times body → ⊥) → given ≡ told_of line notes w → Conversed line notes w (Ok (given, notes)) w
-stays (Repeat times node port to importance body) notes w given repeat drain burst e = absurd (repeat times node port to importance body refl)
+stays (Repeat times node call) notes w given repeat drain burst e = absurd (repeat times node call refl)
 stays (Drain node port) notes w given repeat drain burst e = absurd (drain node port refl)
 stays (Burst node port to_node to_port times body) notes w given repeat drain burst e = absurd (burst node port to_node to_port times body refl)
 stays other notes w given repeat drain burst e = (refl, ap (λ told. (told, notes)) e)
 
 -- a line that sends again and again comes to what the sending of its message comes to
-pub repeats_line : (line : Line) (times node port : ℕ) (to : Destination) (importance : Importance) (body : List ℕ) (message : WorldEvent) (notes : NotesState) (start now : WorldState) (came : Result Told WorldFault)
-    → line ≡ Repeat times node port to importance body → message ≡ event.Call node (sending port to importance body)
-    → Repeated (SendsAgain times message) notes start (beside came notes) now → Conversed line notes start (beside came notes) now
-repeats_line line times node port to importance body message notes start now came is sends h =
-    subst (λ l. Conversed l notes start (beside came notes) now) (sym is) (subst (λ m. Repeated (SendsAgain times m) notes start (beside came notes) now) sends h)
+pub repeats_line : (line : Line) (times node : ℕ) (call : EventNote) (notes : NotesState) (start now : WorldState) (came : Result Told WorldFault) → line ≡ Repeat times node call
+    → Repeated (SendsAgain times (event.Call node call)) notes start (beside came notes) now → Conversed line notes start (beside came notes) now
+repeats_line line times node call notes start now came is h = subst (λ l. Conversed l notes start (beside came notes) now) (sym is) h
 
 -- a line that bursts comes to what its bursts come to
 pub bursts_line : (line : Line) (node port to_node to_port times : ℕ) (body : List ℕ) (at : Socket) (message : WorldEvent) (notes : NotesState) (start now : WorldState) (came : Result (Told × NotesState) WorldFault)

@@ -14,21 +14,15 @@ use Rattle.tipc_sim.specs.Happenings.{IsBegun, Runs, Scene, begin, go_on, scene,
 use Rattle.tipc_sim.specs.Lines.{IsWithin, lines_of}
 use Rattle.tipc_sim.specs.Nodes.{AreSound, IsFirstBad, fault_where, made_by, makes}
 use Rattle.tipc_sim.specs.Noted.{no_notes}
-use Rattle.tipc_sim.specs.Output.{AppendsPart}
-use Rattle.tipc_sim.specs.Reports.{Ends, EndsBadly, EndsLimited, EndsOver, EndsUntold, ReachesLimit, Reports, WritesReport}
+use Rattle.tipc_sim.specs.Output.{AppendsPart, EndsOver, WritesReport}
+use Rattle.tipc_sim.specs.Reports.{Ends, EndsBadly, EndsLimited, EndsUntold, ReachesLimit, Reports}
 use Rattle.tipc_sim.specs.Steps.{IsUnderWay, IsDone, IsHalted, IsRefused, IsCut, IsUntold, TellsAnswer, TellsFault, TellsLimit, LineRuns, IsLimitStatus}
+use Rattle.tipc_sim.specs.Unread.{EndsUnread}
 use Rattle.tipc_sim.proofs.LineLaws.{lines_of-nil}
 use Rattle.tipc_sim.proofs.ListLaws.{here}
+use Rattle.tipc_sim.proofs.OutputLaws.{over_limits, part_more}
 use Rattle.tipc_sim.proofs.ReportLaws.{fault_where_same, made_by_more, sound_more, sound_none}
 use Rattle.tipc_world.proofs.Continuing.{grows_equal, grows_same}
-
--- a text and a part of another are a part of both
-pub part_more : (a b c : Option (List ℕ)) (text more : List ℕ) → Appends a b text → AppendsPart b c more → AppendsPart a c (text ++ more)
-part_more a b c text more whole part = (
-  length text + part.0,
-  omega (arith, part.1, length-append text more),
-  subst (Appends a c) (sym (take-append-add text more part.0)) (Appends-trans a b c text (take part.0 more) whole part.2),
-)
 
 -- a script before its first line
 pub begins : {from : ℕ} (script : List ℕ) (start : WorldState) (contents : Option (List ℕ)) → ((n : ℕ) → is_there start n ≡ false) → IsUnderWay from script script 0 (scene start no_notes) (scene start no_notes) contents contents
@@ -279,43 +273,27 @@ only_closing script closing start before after s ends written = record {
   written = written;
 }
 
--- the source wasn't read: nothing was done or written
-pub unread : {from : ℕ} (script : List ℕ) (start : WorldState) (before : Option (List ℕ)) → Reports [] from script status.ReadFault start start before before
-unread script start before = only_closing script [] start before before status.ReadFault (inl (refl, refl)) (inr (refl, Appends-nil before))
-
--- memory ran out first: nothing was done or written
-pub unwritten : {from : ℕ} (script : List ℕ) (start : WorldState) (before : Option (List ℕ)) → Reports [] from script status.NoMemory start start before before
-unwritten script start before = only_closing script [] start before before status.NoMemory (inr (inl (refl, refl))) (inr (refl, Appends-nil before))
-
--- a script that is too long
-pub too_long : {from : ℕ} (script closing : List ℕ) (start : WorldState) (before after : Option (List ℕ)) (s : Status) → EndsOver script 0 closing → IsLimitStatus s → (s ≡ status.Limit → Appends before after closing)
-    → ((s ≡ status.Limit → ⊥) → AppendsPart before after closing)
-    → Reports [] from script s start start before after
-too_long script closing start before after status.Limit over is whole part = only_closing script closing start before after status.Limit (inl (over, refl)) (whole refl)
-too_long script closing start before after status.WriteFault over is whole part = only_closing script closing start before after status.WriteFault (inr (inr (inl (over, refl)))) (part (λ e. cc))
-too_long script closing start before after status.NoMemory over is whole part = only_closing script closing start before after status.NoMemory (inr (inr (inr (inl (over, refl))))) (inl (part (λ e. cc)))
-too_long script closing start before after status.Ok over is whole part = absurd is
-too_long script closing start before after status.Usage over is whole part = absurd is
-too_long script closing start before after status.BadLine over is whole part = absurd is
-too_long script closing start before after status.ReadFault over is whole part = absurd is
-too_long script closing start before after status.BearerFault over is whole part = absurd is
-too_long script closing start before after status.Differ over is whole part = absurd is
+-- the source isn't read to its end, or is over a limit of a script: nothing was done
+pub not_read : {from : ℕ} (script : List ℕ) (start : WorldState) (before after : Option (List ℕ)) (s : Status) → EndsUnread s script before after → Reports [] from script s start start before after
+not_read script start before after status.ReadFault ends = only_closing script [] start before after status.ReadFault (inl (refl, refl)) (inr (refl, ends))
+not_read script start before after status.Limit ends = only_closing script ends.0 start before after status.Limit (inl (ends.1, refl)) ends.2
+not_read script start before after status.WriteFault ends = only_closing script ends.0 start before after status.WriteFault (inr (inr (inl (ends.1, refl)))) ends.2
+not_read script start before after status.NoMemory ends =
+    elim ends [
+      | inl none ↦ only_closing script [] start before after status.NoMemory (inr (inl (refl, refl))) (inr (refl, none))
+      | inr cut ↦ only_closing script cut.0 start before after status.NoMemory (inr (inr (inr (inl (cut.1, refl))))) (inl cut.2)
+    ]
+not_read script start before after status.Ok ends = absurd ends
+not_read script start before after status.Usage ends = absurd ends
+not_read script start before after status.BadLine ends = absurd ends
+not_read script start before after status.BearerFault ends = absurd ends
+not_read script start before after status.Differ ends = absurd ends
 
 -- a script within the limits of a script was stopped by a limit of the world
 pub limit_reached : {from : ℕ} (head script : List ℕ) (s : Status) (start now : WorldState) (before after : Option (List ℕ)) → IsWithin script → s ≡ status.Limit → Reports head from script s start now before after → ReachesLimit from script start now
 limit_reached {from} head script s start now before after within is reports =
     let r = subst (λ t. Reports head from script t start now before after) is reports in
     elim r.ends [
-      | inl over ↦ absurd (elim over.0.1 [ inl long ↦ omega (arith, long.0, within.0) | inr many ↦ omega (arith, many.1, within.1) ])
+      | inl over ↦ absurd (over_limits script r.done r.closing over.0 within)
       | inr limited ↦ record { done = r.done; left = r.left; report = r.report; runs = r.runs; closing = r.closing; ends = limited }
     ]
-
--- what follows for a value follows for a value that may be known
-pub known : {A : Type 0} (o : Option A) (P Q : A → Type 0) → ((x : A) → P x → Q x) → IfSome o P → IfSome o Q
-known None P Q step h = h
-known (Some x) P Q step h = step x h
-
--- what holds of each value holds of a value that may be known
-pub always : {A : Type 0} (o : Option A) (Q : A → Type 0) → ((x : A) → Q x) → IfSome o Q
-always None Q step = tt
-always (Some x) Q step = step x

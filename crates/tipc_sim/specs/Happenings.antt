@@ -1,17 +1,10 @@
 -- What the lines of a script do to a world, and the report of that.
 use Rattle.std.specs.Prelude.{◌≡◌, nat_le, if◌then◌else◌, ℕ, ◌+◌, ◌-◌, false, ◌||◌, List, [], ◌∷◌, ◌++◌, Option, Some, None, Result, Ok, Err, length, slice_get}
-use Rattle.tipc_types.specs.declared.message_forms.Importance.{Importance}
-use Rattle.tipc_types.specs.declared.node_calls.EventNote.{EventNote}
 use Rattle.tipc_types.specs.declared.node_calls.EventNote.TheVariants as call
-use Rattle.tipc_types.specs.declared.node_calls.Subscription.{Subscription}
 use Rattle.tipc_types.specs.declared.node_calls.Answer.{Answer}
 use Rattle.tipc_types.specs.declared.node_calls.Answer.TheVariants as answer
-use Rattle.tipc_script.specs.declared.lines.Destination.{Destination}
-use Rattle.tipc_script.specs.declared.lines.Destination.TheVariants as destination
-use Rattle.tipc_script.specs.declared.lines.Filter.{Filter}
-use Rattle.tipc_script.specs.declared.lines.Filter.TheVariants as filter
 use Rattle.tipc_script.specs.declared.lines.Line.{Line}
-use Rattle.tipc_script.specs.declared.lines.Line.TheVariants.{Node, Mend, Cut, Tick, Restart, Link, Mark, Socket, Close, Publish, Withdraw, Subscribe, Event, Cancel, Send, Repeat, Arrive, Receive, Drain, Pump, Burst, Settle, Air, Show, Links, Table, Flow}
+use Rattle.tipc_script.specs.declared.lines.Line.TheVariants.{Node, Call, Repeat, BadRange, Restart, Link, Mark, Arrive, Drain, Pump, Burst, Settle, Air, Show, Links, Table, Flow}
 use Rattle.tipc_script.specs.Grammar.{asked}
 use Rattle.tipc_report.specs.Text.{told_line}
 use Rattle.tipc_report.specs.declared.told.Told.{Told}
@@ -50,55 +43,12 @@ pub record Scene : Type 0 where
 abbrev pub scene : WorldState → NotesState → Scene
 scene world notes = record { world = world; notes = notes }
 
--- the call that sends a message
-abbrev pub sending : ℕ → Destination → Importance → List ℕ → EventNote
-sending port (destination.Port to) importance body = call.SendPort port to importance body
-sending port (destination.Name kind instance) importance body = call.SendName port kind instance importance body
-sending port (destination.Cast kind lower upper) importance body = call.Multicast port kind lower upper importance body
-
--- the number of a filter
-abbrev pub filter_number : Filter → ℕ
-filter_number filter.Ports = 1
-filter_number filter.Service = 2
-
--- the handle of a script's subscribers
-abbrev pub no_handle : List ℕ
-no_handle = 0 ∷ 0 ∷ 0 ∷ 0 ∷ 0 ∷ 0 ∷ 0 ∷ 0 ∷ []
-
--- what a line subscribes to
-abbrev pub wished : ℕ → ℕ → ℕ → ℕ → Filter → Subscription
-wished kind lower upper timeout filter =
-    record { range_kind = kind; lower = lower; upper = upper; timeout = timeout; filter = filter_number filter; handle = no_handle }
-
--- the event that a line about a subscription is; None for another line, and for a range whose lower bound is above the
--- upper
-abbrev pub subscription_event : Line → Option WorldEvent
-subscription_event (Subscribe node kind lower upper timeout filter) =
-    if nat_le lower upper then Some (event.Call node (call.Subscribe (wished kind lower upper timeout filter))) else None
-subscription_event (Event node number) = Some (event.Call node (call.NextEvent number))
-subscription_event (Cancel node number) = Some (event.Call node (call.Cancel number))
-subscription_event other = None
-
--- the event that a line about a service, a socket or a subscription is; None for another line, and for a range whose
--- lower bound is above the upper
-abbrev pub service_event : Line → Option WorldEvent
-service_event (Close node port) = Some (event.Call node (call.Close port))
-service_event (Publish node port kind lower upper scope key) =
-    if nat_le lower upper then Some (event.Call node (call.Publish port (record { kind = kind; lower = lower; upper = upper }) scope key)) else None
-service_event (Withdraw node port key) = Some (event.Call node (call.Withdraw port key))
-service_event other = subscription_event other
-
 -- the event that a line is; None for a line that is no event or several
 abbrev pub event_of : Line → NotesState → Option WorldEvent
-event_of (Mend node bearer) notes = Some (event.Call node (call.Mend bearer))
-event_of (Cut node bearer) notes = Some (event.Call node (call.Cut bearer))
-event_of (Tick node) notes = Some (event.Call node call.Tick)
+event_of (Call node call) notes = Some (event.Call node call)
 event_of (Restart node) notes = Some (event.Restart node)
-event_of (Socket node) notes = Some (event.Call node call.Socket)
-event_of (Send node port to importance body) notes = Some (event.Call node (sending port to importance body))
 event_of (Arrive node bearer frame) notes = Some (event.Arrive node bearer (counted (place_on bearer notes.bases + frame)))
-event_of (Receive node port) notes = Some (event.Call node (call.Receive port))
-event_of other notes = service_event other
+event_of other notes = None
 
 -- what is told of a line, and what is kept beside the world then
 abbrev pub Outcome : Type 0
@@ -155,21 +105,20 @@ abbrev pub told_of_flow : Option FlowCounts → Told
 told_of_flow None = told.NoContact
 told_of_flow (Some counts) = told.Flow counts.accepted counts.delivered
 
--- what is told of a line that leaves everything as it is: a line that asks for nothing is one, and a publication or a
--- subscription is one where its range is bad
+-- what is told of a line that leaves everything as it is: a line that asks for nothing is one, and one that would call
+-- a node with a range without instances
 abbrev pub told_of : Line → NotesState → WorldState → Told
 told_of (Air bearer) notes w = told.Air (length (air_on bearer w.air) - place_on bearer notes.bases)
 told_of (Show bearer frame) notes w = shown (slice_get (air_on bearer w.air) (counted (place_on bearer notes.bases + frame)))
 told_of (Links node) notes w = told.Links (links_of w.members node)
 told_of (Table node) notes w = told.Table (table_of w.members node)
 told_of (Flow from to) notes w = told_of_flow (flow_of w.members from to)
-told_of (Publish node port kind lower upper scope key) notes w = told.Answer answer.BadRange
-told_of (Subscribe node kind lower upper timeout filter) notes w = told.Answer answer.BadRange
+told_of (BadRange node) notes w = told.Answer answer.BadRange
 told_of other notes w = told.Nothing
 
 -- what becomes of a world by a line that sends and receives messages again and again, or leaves everything as it is
 abbrev pub Conversed : Line → NotesState → Course Outcome
-Conversed (Repeat times node port to importance body) notes start came now = Repeated (SendsAgain times (event.Call node (sending port to importance body))) notes start came now
+Conversed (Repeat times node call) notes start came now = Repeated (SendsAgain times (event.Call node call)) notes start came now
 Conversed (Drain node port) notes start came now = Retells (ReceivesAll node port) notes start came now
 Conversed (Burst node port to_node to_port times body) notes start came now =
     Moves (Bursts times (low_message node port to_node to_port body) (event.Call to_node (call.Receive to_port)) notes.places) notes start came now

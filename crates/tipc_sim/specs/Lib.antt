@@ -1,3 +1,4 @@
+pub mod Dissections
 pub mod Happenings
 pub mod Lines
 pub mod LiveCounts
@@ -14,4 +15,5 @@ pub mod Reports
 pub mod Statuses
 pub mod Steps
 pub mod Streams
+pub mod Unread
 pub mod Words

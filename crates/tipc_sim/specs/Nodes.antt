@@ -4,11 +4,12 @@ use Rattle.std.specs.List.{list_any}
 use Rattle.std.specs.Option.{option_or, option_map}
 use Rattle.tipc_script.specs.declared.faults.LineWhy.TheVariants as why
 use Rattle.tipc_script.specs.declared.lines.Line.{Line}
-use Rattle.tipc_script.specs.declared.lines.Line.TheVariants.{Nothing, Node, Mend, Cut, Tick, Restart, Link, Mark, Socket, Close, Publish, Withdraw, Subscribe, Event, Cancel, Send, Repeat, Arrive, Receive, Drain, Pump, Burst, Settle, Air, Show, Links, Table, Flow}
+use Rattle.tipc_script.specs.declared.lines.Line.TheVariants.{Nothing, Node, Call, Repeat, BadRange, Restart, Link, Mark, Arrive, Drain, Pump, Burst, Settle, Air, Show, Links, Table, Flow}
 use Rattle.tipc_script.specs.declared.lines.NodeToken.{NodeToken}
 use Rattle.tipc_script.specs.Grammar.{asked, nodes_of}
 use Rattle.tipc_script.specs.Faults.{Fault, fault_of}
 use Rattle.tipc_script.specs.Spelling.{IsNode}
+use Rattle.tipc_node.specs.Calls.{CanPerform}
 
 -- whether a line makes a node
 abbrev pub makes : Line → ℕ → Bool
@@ -47,23 +48,13 @@ pub record IsFirstBad (lines : List (List ℕ)) (i : ℕ) (fault : Fault) : Type
 abbrev pub CanBeDone : (ℕ → Bool) → Line → Type 0
 CanBeDone there Nothing = Unit {0}
 CanBeDone there (Node node) = IsNode node × (there node ≡ false)
-CanBeDone there (Mend node bearer) = (there node ≡ true) × (bearer ≤ 1)
-CanBeDone there (Cut node bearer) = (there node ≡ true) × (bearer ≤ 1)
-CanBeDone there (Tick node) = there node ≡ true
+CanBeDone there (Call node call) = (there node ≡ true) × CanPerform call
+CanBeDone there (Repeat times node call) = (there node ≡ true) × CanPerform call × (1 ≤ times)
+CanBeDone there (BadRange node) = there node ≡ true
 CanBeDone there (Restart node) = there node ≡ true
 CanBeDone there (Link first second bearer) = (there first ≡ true) × (there second ≡ true) × (bearer ≤ 1)
 CanBeDone there Mark = Unit {0}
-CanBeDone there (Socket node) = there node ≡ true
-CanBeDone there (Close node port) = there node ≡ true
-CanBeDone there (Publish node port kind lower upper scope key) = there node ≡ true
-CanBeDone there (Withdraw node port key) = there node ≡ true
-CanBeDone there (Subscribe node kind lower upper timeout filter) = there node ≡ true
-CanBeDone there (Event node number) = there node ≡ true
-CanBeDone there (Cancel node number) = there node ≡ true
-CanBeDone there (Send node port to importance body) = there node ≡ true
-CanBeDone there (Repeat times node port to importance body) = (there node ≡ true) × (1 ≤ times)
 CanBeDone there (Arrive node bearer frame) = (there node ≡ true) × (bearer ≤ 1)
-CanBeDone there (Receive node port) = there node ≡ true
 CanBeDone there (Drain node port) = there node ≡ true
 CanBeDone there (Burst node port to_node to_port times body) = (there node ≡ true) × (there to_node ≡ true) × IsNode to_node
 CanBeDone there (Pump bearer) = bearer ≤ 1

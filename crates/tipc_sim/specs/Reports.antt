@@ -1,9 +1,7 @@
 -- What a run of a script writes.
-use Rattle.std.specs.Prelude.{◌≡◌, ◌⊎◌, ℕ, ◌+◌, ◌<◌, ◌≤◌, List, [], ◌++◌, Option, None, Some, length, slice_get, take}
-use Rattle.std.specs.Io.KnownBytes.{Appends}
+use Rattle.std.specs.Prelude.{◌≡◌, ◌⊎◌, ℕ, ◌+◌, ◌≤◌, List, [], ◌++◌, Option, None, Some, length, slice_get, take}
 use Rattle.tipc_script.specs.Faults.{Fault}
 use Rattle.tipc_report.specs.Text.{bad_line, limit_line}
-use Rattle.tipc_report.specs.declared.limits.Which.TheVariants as which
 use Rattle.tipc_script.specs.Grammar.{asked}
 use Rattle.tipc_world.specs.declared.faults.Limit.{Limit}
 use Rattle.tipc_world.specs.Growth.{Grows}
@@ -14,19 +12,12 @@ use Rattle.tipc_sim.specs.Happenings.{IsBegun, IsLimited, Runs, Scene, scene, wh
 use Rattle.tipc_sim.specs.Lines.{lines_of}
 use Rattle.tipc_sim.specs.Nodes.{AreSound, IsFirstBad, fault_where, made_by}
 use Rattle.tipc_sim.specs.Noted.{no_notes}
-use Rattle.tipc_sim.specs.Output.{AppendsPart}
+use Rattle.tipc_sim.specs.Output.{EndsOver, WritesReport}
 
 -- the closing line tells the first bad line, which follows the lines that were done
 abbrev pub EndsBadly : List ℕ → ℕ → List ℕ → Type 0
 EndsBadly script done closing = (fault : Fault) × IsFirstBad (lines_of script) done fault
     × (closing ≡ bad_line (done + 1) fault.0 fault.1)
-
--- a script has too many bytes, or else too many lines; the closing line tells which, and nothing was done
-abbrev pub EndsOver : List ℕ → ℕ → List ℕ → Type 0
-EndsOver script done closing =
-    (done ≡ 0)
-    × (((16777216 < length script) × (closing ≡ limit_line 0 which.Bytes))
-    ⊎ ((length script ≤ 16777216) × (65536 < length (lines_of script)) × (closing ≡ limit_line 0 which.Lines)))
 
 -- a limit of the world stopped an event of the line that follows those that were done, which is without fault; the
 -- closing line tells the limit
@@ -62,16 +53,6 @@ Ends status.Limit script done left now closing = (EndsOver script done closing �
     ⊎ EndsLimited script done left now closing
 Ends status.NoMemory script done left now closing = EndsUntold script done left now closing ⊎ EndsEarly script done left now closing
 Ends other script done left now closing = EndsEarly script done left now closing
-
--- what was written of a report and its closing line: all at these statuses, a part at WriteFault, and at the others a
--- part, or all of a report that has no closing line
-abbrev pub WritesReport : Status → Option (List ℕ) → Option (List ℕ) → List ℕ → List ℕ → Type 0
-WritesReport status.Ok before after report closing = Appends before after (report ++ closing)
-WritesReport status.BadLine before after report closing = Appends before after (report ++ closing)
-WritesReport status.Limit before after report closing = Appends before after (report ++ closing)
-WritesReport status.WriteFault before after report closing = AppendsPart before after (report ++ closing)
-WritesReport other before after report closing = AppendsPart before after (report ++ closing)
-    ⊎ ((closing ≡ []) × Appends before after report)
 
 -- What a run of a script came to: its first lines were done, they are without fault, and what was written is a head,
 -- their report from a number on, and a closing line. The world only grew after them.

@@ -12,7 +12,7 @@ ghost use Rattle.tipc_script.specs.Faults.{Tells};
 ghost use Rattle.tipc_sim.specs.Nodes.{is_misplaced, fault_where, makes, CanBeDone};
 ghost use Rattle.tipc_world.specs.Courses.{Continues};
 ghost use Rattle.tipc_world.specs.Ends.{place_on};
-ghost use Rattle.tipc_sim.specs.Happenings.{beside, event_of, filter_number, scene, sending, service_event, shown, subscription_event, told_of, told_of_flow, wished, written_line, Answers, Composed, Conversed, IsBegun, IsLimited, Moves, Repeated};
+ghost use Rattle.tipc_sim.specs.Happenings.{beside, event_of, scene, shown, told_of, told_of_flow, written_line, Answers, Composed, Conversed, IsBegun, IsLimited, Moves, Repeated};
 ghost use Rattle.tipc_sim.specs.Meanings.{Pumps};
 ghost use Rattle.tipc_sim.specs.Messages.{is_call, low_message, Bursts, SendsAgain};
 ghost use Rattle.tipc_sim.specs.Noted.{pumped, NotesState};
@@ -26,10 +26,8 @@ use crate::notes::Notes;
 use std::alloc::Global;
 use tipc_pick::Pick;
 use tipc_report::{Told, print};
-use tipc_script::{Destination, Filter, Line, LineFault, LineWhy, NodeToken, parse_line};
-use tipc_types::{
-    Addr, Answer, Body, EventNote, Importance, NoMemory, PortId, ServiceRange, Subscription,
-};
+use tipc_script::{Line, LineFault, LineWhy, NodeToken, parse_line};
+use tipc_types::{Addr, Answer, Body, EventNote, Importance, NoMemory, PortId};
 use tipc_world::{FlowCounts, World, WorldEvent, WorldFault};
 
 /// Whether a node that has to be there isn't, or one that mustn't be there is.
@@ -70,165 +68,14 @@ pub fn line_in<P: Pick>(alloc: Global, text: &[u8], world: &World<P>) -> Result<
     Ok(command.line)
 }
 
-/// A call of a node.
-fn call(node: u8, call: EventNote) -> WorldEvent
-    ensures { result ≡ WorldEvent.Call node call }
-{
-    WorldEvent::Call { node, call }
-}
-
-/// A message is sent from a port of a node.
-fn send(node: u8, port: u32, to: Destination, importance: Importance, body: Body) -> WorldEvent
-    ensures { result ≡ WorldEvent.Call node (sending port to importance body) }
-{
-    let sending = match to {
-        Destination::Port(to) => EventNote::SendPort {
-            port,
-            to,
-            importance,
-            body,
-        },
-        Destination::Name { kind, instance } => EventNote::SendName {
-            port,
-            kind,
-            instance,
-            importance,
-            body,
-        },
-        Destination::Cast { kind, lower, upper } => EventNote::Multicast {
-            port,
-            kind,
-            lower,
-            upper,
-            importance,
-            body,
-        },
-    };
-    call(node, sending)
-}
-
-/// The filter under which each publication has its event. (Programmer's guide.)
-const PORTS: u32 = 1;
-
-/// The filter under which each distinct range has its event. (Programmer's guide.)
-const SERVICE: u32 = 2;
-
-/// The number of a filter.
-fn filter_number(filter: Filter) -> u32
-    ensures { result ≡ filter_number filter }
-{
-    match filter {
-        Filter::Ports => PORTS,
-        Filter::Service => SERVICE,
-    }
-}
-
-/// What a line subscribes to. A script's subscribers have no handle.
-fn wished(kind: u32, lower: u32, upper: u32, timeout: u32, filter: Filter) -> Subscription
-    ensures { result ≡ wished kind lower upper timeout filter }
-{
-    Subscription {
-        range_kind: kind,
-        lower,
-        upper,
-        timeout,
-        filter: filter_number(filter),
-        handle: [0; 8],
-    }
-}
-
-/// The event that a line about a subscription is, or the line where it is another, or names a range without instances.
-fn subscription_event(line: Line) -> Result<WorldEvent, Line>
-    ensures event { IfOk result (λ event. subscription_event line ≡ Some event) }
-    ensures other { IfErr result (λ other. (other ≡ line) × (subscription_event line ≡ None)) }
-{
-    match line {
-        Line::Event { node, number } => Ok(call(node, EventNote::NextEvent { number })),
-        Line::Cancel { node, number } => Ok(call(node, EventNote::Cancel { number })),
-        Line::Subscribe {
-            node,
-            kind,
-            lower,
-            upper,
-            timeout,
-            filter,
-        } => {
-            if upper < lower {
-                return Err(Line::Subscribe {
-                    node,
-                    kind,
-                    lower,
-                    upper,
-                    timeout,
-                    filter,
-                });
-            }
-            let subscription = wished(kind, lower, upper, timeout, filter);
-            Ok(call(node, EventNote::Subscribe { subscription }))
-        }
-        other => Err(other),
-    }
-}
-
-/// The event that a line about a service, a socket or a subscription is, or the line where it is another, or names a
-/// range without instances.
-fn service_event(line: Line) -> Result<WorldEvent, Line>
-    ensures event { IfOk result (λ event. service_event line ≡ Some event) }
-    ensures other { IfErr result (λ other. (other ≡ line) × (service_event line ≡ None)) }
-{
-    match line {
-        Line::Close { node, port } => Ok(call(node, EventNote::Close { port })),
-        Line::Withdraw { node, port, key } => Ok(call(node, EventNote::Withdraw { port, key })),
-        Line::Publish {
-            node,
-            port,
-            kind,
-            lower,
-            upper,
-            scope,
-            key,
-        } => match ServiceRange::new(kind, lower, upper) {
-            Ok(range) => Ok(call(
-                node,
-                EventNote::Publish {
-                    port,
-                    range,
-                    scope,
-                    key,
-                },
-            )),
-            Err(_) => Err(Line::Publish {
-                node,
-                port,
-                kind,
-                lower,
-                upper,
-                scope,
-                key,
-            }),
-        },
-        other => subscription_event(other),
-    }
-}
-
 /// The event that a line is, or the line where it is none or several.
 fn event_of(line: Line, notes: &Notes) -> Result<WorldEvent, Line>
     ensures event { IfOk result (λ event. event_of line notes.now ≡ Some event) }
     ensures other { IfErr result (λ other. (other ≡ line) × (event_of line notes.now ≡ None)) }
 {
     match line {
-        Line::Mend { node, bearer } => Ok(call(node, EventNote::Mend { bearer })),
-        Line::Cut { node, bearer } => Ok(call(node, EventNote::Cut { bearer })),
-        Line::Tick { node } => Ok(call(node, EventNote::Tick)),
+        Line::Call { node, call } => Ok(WorldEvent::Call { node, call }),
         Line::Restart { node } => Ok(WorldEvent::Restart { node }),
-        Line::Socket { node } => Ok(call(node, EventNote::Socket)),
-        Line::Send {
-            node,
-            port,
-            to,
-            importance,
-            body,
-        } => Ok(send(node, port, to, importance, body)),
         Line::Arrive {
             node,
             bearer,
@@ -238,8 +85,7 @@ fn event_of(line: Line, notes: &Notes) -> Result<WorldEvent, Line>
             bearer,
             frame: notes.base(bearer).saturating_add(frame),
         }),
-        Line::Receive { node, port } => Ok(call(node, EventNote::Receive { port })),
-        other => service_event(other),
+        other => Err(other),
     }
 }
 
@@ -309,7 +155,13 @@ fn low_message(node: u8, port: u32, at: Socket, body: Body) -> WorldEvent
         node: Addr::node(at.node),
         port: at.port,
     };
-    send(node, port, Destination::Port(to), Importance::Low, body)
+    let call = EventNote::SendPort {
+        port,
+        to,
+        importance: Importance::Low,
+        body,
+    };
+    WorldEvent::Call { node, call }
 }
 
 /// The frame of a bearer of that number since the last mark, where there is one.
@@ -358,7 +210,7 @@ fn tell<P: Pick>(
         Line::Links { node } => Told::Links(world.links(alloc, *node)?),
         Line::Table { node } => Told::Table(world.table(alloc, *node)?),
         Line::Flow { from, to } => told_of_flow(world.flow(*from, *to)),
-        Line::Publish { .. } | Line::Subscribe { .. } => Told::Answer(Answer::BadRange),
+        Line::BadRange { .. } => Told::Answer(Answer::BadRange),
         _ => Told::Nothing,
     })
 }
@@ -375,15 +227,8 @@ fn converse<P: Pick>(
     ensures continues { Continues P.gives world.old world.new }
 {
     match line {
-        Line::Repeat {
-            times,
-            node,
-            port,
-            to,
-            importance,
-            body,
-        } => {
-            let message = send(node, port, to, importance, body);
+        Line::Repeat { times, node, call } => {
+            let message = WorldEvent::Call { node, call };
             repeat_on(alloc, times, &message, world)
         }
         Line::Drain { node, port } => {

@@ -3,6 +3,8 @@
 //! their journals tell.
 #![tactic(auto)]
 
+mod closing;
+mod dissecting;
 mod frames;
 mod lines;
 mod linking;

@@ -4,118 +4,41 @@ ghost use Rattle.std.specs.Prelude.{ℕ, ◌≡◌, ◌⊎◌, ◌<◌, ◌≤�
 ghost use Rattle.std.specs.String.{string_bytes};
 ghost use Rattle.std.specs.Io.KnownBytes.{Appends};
 ghost use Rattle.tipc_outside.specs.Causes.{Rose};
-ghost use Rattle.tipc_report.specs.Text.{bad_line, limit_line, seed_line};
+ghost use Rattle.tipc_report.specs.Text.{seed_line};
 ghost use Rattle.tipc_load.specs.Load.{generated};
 ghost use Rattle.tipc_world.specs.States.{is_there, no_nodes};
 ghost use Rattle.tipc_world.specs.Good.{IsGood};
 ghost use Rattle.tipc_world.specs.Growth.{Grows};
 ghost use Rattle.tipc_sim.specs.Lines.{lines_of, IsWithin};
 ghost use Rattle.tipc_sim.specs.Nodes.{AreSound, IsFirstBad};
-ghost use Rattle.tipc_sim.specs.Words.{first_told, form_of, head_of, OnScript};
+ghost use Rattle.tipc_sim.specs.Dissections.{AreFrames, Dissects};
+ghost use Rattle.tipc_sim.specs.Words.{first_told, form_of, head_of, OnFrames, OnScript};
 ghost use Rattle.tipc_script.specs.Faults.{Fault};
 ghost use Rattle.tipc_sim.specs.Happenings.{scene, which_of};
 ghost use Rattle.tipc_sim.specs.Reports.{ReachesLimit, Reports};
 ghost use Rattle.tipc_sim.specs.Output.{AppendsPart};
-ghost use Rattle.tipc_sim.specs.Steps.{LineRuns, IsWriteStatus, IsBadStatus, IsLinesStatus, IsLimitStatus};
+ghost use Rattle.tipc_sim.specs.Steps.{LineRuns, IsWriteStatus, IsLinesStatus};
 
+use crate::closing::{refuse, tell_limit, tell_stop};
+use crate::dissecting::dissect_source;
 use crate::lines::{do_line, line_in};
 use crate::notes::Notes;
-use crate::reading::{ReadStop, read_script};
+use crate::reading::read_within;
 use crate::scripts::first_line;
 use crate::status::Status;
 use crate::words::{Form, form_of};
-use crate::writing::write_all;
+use crate::writing::write_text;
 use std::alloc::Global;
 use tipc_load::generate;
-use tipc_outside::{Sink, SinkFault, Source};
+use tipc_outside::{Sink, Source};
 use tipc_pick::Pick;
-use tipc_report::{Which, print_bad, print_limit, print_seed};
-use tipc_script::{LineFault, LineWhy};
+use tipc_report::{Which, print_seed};
+use tipc_script::LineFault;
 use tipc_types::NoMemory;
 use tipc_world::{Limit, World, WorldFault};
 
-/// The most lines of a script. (This project's profile.)
-const MOST_LINES: usize = 65_536;
-
 /// The first line of a generated script whose answer is written: its last settling. (This project's profile.)
 const FIRST_TOLD: u32 = 1048;
-
-/// Writes a text, or answers the status of what stopped it.
-pub(crate) fn write_text<K: Sink>(sink: &mut K, text: &[u8]) -> Result<(), Status>
-    ensures ok { OnOk result (Appends (K.contents sink.old) (K.contents sink.new) text.now) }
-    ensures part { OnErr result (AppendsPart (K.contents sink.old) (K.contents sink.new) text.now) }
-    ensures status { IfErr result IsWriteStatus }
-    ensures failed { IsErrOf result Status.WriteFault → Rose (K.faults sink.old) (K.faults sink.new) ⊎
-        Rose (K.stalls sink.old) (K.stalls sink.new) }
-    ensures later { K.faults sink.old ≤ K.faults sink.new }
-    ensures no_fewer { K.stalls sink.old ≤ K.stalls sink.new }
-{
-    match write_all(sink, text) {
-        Ok(()) => Ok(()),
-        Err(SinkFault::Failed) => Err(Status::WriteFault),
-        Err(SinkFault::NoMemory) => Err(Status::NoMemory),
-    }
-}
-
-/// The closing line of a bad line.
-fn bad_text(alloc: Global, number: u32, place: u32, why: LineWhy) -> Result<Vec<u8>, NoMemory>
-    ensures { IfOk result (λ text. text.items ≡ bad_line number place why) }
-{
-    let mut text = Vec::new(alloc);
-    print_bad(number, place, why, &mut text)?;
-    Ok(text)
-}
-
-/// Tells a bad line, and answers the status of that.
-fn refuse<K: Sink>(alloc: Global, number: u32, place: u32, why: LineWhy, sink: &mut K) -> Status
-    ensures bad { result ≡ Status.BadLine → Appends (K.contents sink.old) (K.contents sink.new)
-        (bad_line number place why) }
-    ensures part { (result ≡ Status.BadLine → ⊥) → AppendsPart (K.contents sink.old) (K.contents sink.new)
-        (bad_line number place why) }
-    ensures status { IsBadStatus result }
-    ensures failed { result ≡ Status.WriteFault → Rose (K.faults sink.old) (K.faults sink.new) ⊎
-        Rose (K.stalls sink.old) (K.stalls sink.new) }
-    ensures later { K.faults sink.old ≤ K.faults sink.new }
-    ensures no_fewer { K.stalls sink.old ≤ K.stalls sink.new }
-{
-    let Ok(text) = bad_text(alloc, number, place, why) else {
-        return Status::NoMemory;
-    };
-    match write_text(sink, text.as_slice()) {
-        Ok(()) => Status::BadLine,
-        Err(status) => status,
-    }
-}
-
-/// The closing line of a limit.
-fn limit_text(alloc: Global, number: u32, which: Which) -> Result<Vec<u8>, NoMemory>
-    ensures { IfOk result (λ text. text.items ≡ limit_line number which) }
-{
-    let mut text = Vec::new(alloc);
-    print_limit(number, which, &mut text)?;
-    Ok(text)
-}
-
-/// Tells that a limit is reached, and answers the status of that.
-fn tell_limit<K: Sink>(alloc: Global, number: u32, which: Which, sink: &mut K) -> Status
-    ensures limit { result ≡ Status.Limit → Appends (K.contents sink.old) (K.contents sink.new)
-        (limit_line number which) }
-    ensures part { (result ≡ Status.Limit → ⊥) → AppendsPart (K.contents sink.old) (K.contents sink.new)
-        (limit_line number which) }
-    ensures status { IsLimitStatus result }
-    ensures failed { result ≡ Status.WriteFault → Rose (K.faults sink.old) (K.faults sink.new) ⊎
-        Rose (K.stalls sink.old) (K.stalls sink.new) }
-    ensures later { K.faults sink.old ≤ K.faults sink.new }
-    ensures no_fewer { K.stalls sink.old ≤ K.stalls sink.new }
-{
-    let Ok(text) = limit_text(alloc, number, which) else {
-        return Status::NoMemory;
-    };
-    match write_text(sink, text.as_slice()) {
-        Ok(()) => Status::Limit,
-        Err(status) => status,
-    }
-}
 
 /// How a limit of a world is told.
 fn which_of(limit: Limit) -> Which
@@ -204,20 +127,6 @@ fn run_lines<K: Sink, P: Pick>(
     Status::Ok
 }
 
-/// How many lines some bytes have.
-fn line_count(script: &[u8]) -> usize
-    ensures { result ≡ length (lines_of script.now) }
-{
-    let mut rest = script;
-    let mut count = 0;
-    while !rest.is_empty() {
-        let (_line, behind) = first_line(rest);
-        count += 1;
-        rest = behind;
-    }
-    count
-}
-
 /// The first line of the report of a generated script.
 fn seed_text(alloc: Global, seed: u32) -> Result<Vec<u8>, NoMemory>
     ensures { IfOk result (λ text. text.items ≡ seed_line seed) }
@@ -274,15 +183,10 @@ fn run_source<S: Source, K: Sink, P: Pick>(
         → (result ≡ Status.Ok) ⊎ ((result ≡ Status.NoMemory) ⊎
         ((result ≡ Status.Limit) × ReachesLimit 1 script world.old.state world.new.state))) }
 {
-    let script = match read_script(alloc, source) {
+    let script = match read_within(alloc, source) {
         Ok(script) => script,
-        Err(ReadStop::Failed) => return Status::ReadFault,
-        Err(ReadStop::TooLong) => return tell_limit(alloc, 0, Which::Bytes, sink),
-        Err(ReadStop::NoMemory) => return Status::NoMemory,
+        Err(stop) => return tell_stop(alloc, stop, sink),
     };
-    if line_count(script.as_slice()) > MOST_LINES {
-        return tell_limit(alloc, 0, Which::Lines, sink);
-    }
     run_lines(alloc, script.as_slice(), 1, sink, world)
 }
 
@@ -314,12 +218,14 @@ fn run_generated<K: Sink, P: Pick>(
     run_lines(alloc, script.as_slice(), FIRST_TOLD, sink, world)
 }
 
-/// Runs the script that a source holds, or the one that a number stands for, and writes its report to a sink.
+/// Runs the script that a source holds, or the one that a number stands for, and writes its report to a sink; or
+/// dissects the frames that a source holds.
 ///
-/// The forms are the word `run` alone, and `gen` and a number from 1 to 1,000. Under `run` the source is read to its
-/// end first; under `gen` nothing is read. Then each line is read, done and answered by a printed line before the next
-/// one. Under `gen` the line `gen` and the number is written first, and of the answers those from line 1,048 on. (This
-/// project's profile.)
+/// The forms are the words `run` and `dissect` alone, and `gen` and a number from 1 to 1,000. Under `run` and `dissect`
+/// the source is read to its end first; under `gen` nothing is read. Then each line is read, done and answered by a
+/// printed line before the next one. Under `gen` the line `gen` and the number is written first, and of the answers
+/// those from line 1,048 on. Under `dissect` a line is a frame in lower-case hexadecimal, and is answered by the
+/// frame's text. (This project's profile.)
 pub fn run<S: Source, K: Sink, P: Pick>(
     alloc: Global,
     words: &[String],
@@ -365,6 +271,14 @@ pub fn run<S: Source, K: Sink, P: Pick>(
         IsWithin (generated seed) × AreSound (lines_of (generated seed)) × (result ≡ Status.ReadFault → ⊥) ×
         (result ≡ Status.BadLine → ⊥) }
 
+    // Under `dissect` the world stays empty. What is written are the texts of the lines, with a closing line as under
+    // `run`, and where each status comes: BadLine at the first line that is no frame, Limit at too many bytes or lines.
+    ensures still { form_of (map string_bytes words.now) ≡ Some Form.Dissect → world.new ≡ world.old }
+    ensures dissected { OnFrames (map string_bytes words.now) (S.left source.old) (λ frames.
+        Dissects frames result (K.contents sink.old) (K.contents sink.new)) }
+    ensures end_of_frames { result ≡ Status.Ok → form_of (map string_bytes words.now) ≡ Some Form.Dissect →
+        IfSome (S.left source.old) (λ frames. S.left source.new ≡ Some []) }
+
     // A frame that was lost for want of memory ends the run so.
     ensures lost { world.new.state.lost ≡ true → result ≡ Status.NoMemory }
 
@@ -376,6 +290,13 @@ pub fn run<S: Source, K: Sink, P: Pick>(
         (Rose (K.faults sink.old) (K.faults sink.new) → ⊥) → (Rose (K.stalls sink.old) (K.stalls sink.new) → ⊥)
         → (result ≡ Status.Ok) ⊎ ((result ≡ Status.NoMemory) ⊎
         ((result ≡ Status.Limit) × ReachesLimit (first_told form) script world.old.state world.new.state))) }
+
+    // So are frames, unless memory runs out.
+    ensures complete_frames { OnFrames (map string_bytes words.now) (S.left source.old) (λ frames.
+        IsWithin frames → AreFrames (lines_of frames)
+        → (Rose (S.faults source.old) (S.faults source.new) → ⊥) →
+        (Rose (K.faults sink.old) (K.faults sink.new) → ⊥) → (Rose (K.stalls sink.old) (K.stalls sink.new) → ⊥)
+        → (result ≡ Status.Ok) ⊎ (result ≡ Status.NoMemory)) }
 {
     let Some(form) = form_of(words) else {
         return Status::Usage;
@@ -383,5 +304,6 @@ pub fn run<S: Source, K: Sink, P: Pick>(
     match form {
         Form::Run => run_source(alloc, source, sink, world),
         Form::Gen(seed) => run_generated(alloc, seed, sink, world),
+        Form::Dissect => dissect_source(alloc, source, sink),
     }
 }

@@ -22,3 +22,17 @@ pub fn first_line(bytes: &[u8]) -> (&[u8], &[u8])
     };
     (&bytes[..len], &bytes[len + 1..])
 }
+
+/// How many lines some bytes have.
+pub fn line_count(script: &[u8]) -> usize
+    ensures { result ≡ length (lines_of script.now) }
+{
+    let mut rest = script;
+    let mut count = 0;
+    while !rest.is_empty() {
+        let (_line, behind) = first_line(rest);
+        count += 1;
+        rest = behind;
+    }
+    count
+}

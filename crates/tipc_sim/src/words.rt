@@ -4,7 +4,7 @@ ghost use Rattle.std.specs.Prelude.{◌≡◌, OnErr, IfOk, IfErr, IfSome, Err, 
 ghost use Rattle.std.specs.String.{string_bytes};
 ghost use Rattle.std.specs.Vec.Iter.{into_iter_items};
 ghost use Rattle.std.specs.IoError.{error_kind};
-ghost use Rattle.tipc_sim.specs.Words.{form_of, generating, running, status_of};
+ghost use Rattle.tipc_sim.specs.Words.{form_of, generating, one_word, status_of};
 
 use crate::status::Status;
 use std::alloc::{AllocError, Global};
@@ -23,16 +23,19 @@ pub enum Form {
     Run,
     /// To run the script that a number from 1 to 1,000 stands for.
     Gen(u32),
+    /// To dissect the frames of its source, which are lines of hexadecimal.
+    Dissect,
 }
 
-/// The form of one word: `run`.
-fn running(word: &str) -> Option<Form>
-    ensures { result ≡ running word.now }
+/// The form of one word: `run` or `dissect`.
+fn one_word(word: &str) -> Option<Form>
+    ensures { result ≡ one_word word.now }
 {
-    if word == "run" {
-        return Some(Form::Run);
+    match word {
+        "run" => Some(Form::Run),
+        "dissect" => Some(Form::Dissect),
+        _ => None,
     }
-    None
 }
 
 /// The form of two words: `gen` and a number without sign or leading zero.
@@ -46,12 +49,12 @@ fn generating(word: &str, number: &str) -> Option<Form>
     Some(Form::Gen(seed))
 }
 
-/// The form that the words after the program's name are, if any: `run` alone, or `gen` and a number.
+/// The form that the words after the program's name are, if any: `run` or `dissect` alone, or `gen` and a number.
 pub fn form_of(words: &[String]) -> Option<Form>
     ensures { result ≡ form_of (map string_bytes words.now) }
 {
     match words {
-        [word] => running(word.as_str()),
+        [word] => one_word(word.as_str()),
         [word, number] => generating(word.as_str(), number.as_str()),
         _ => None,
     }

@@ -1,7 +1,7 @@
 use Rattle.std.proofs.Common.{◌≡◌, ◌++◌, ◌∷◌, [], ap, subst, ◌∙◌, arith, refl}
 use Rattle.std.specs.List.{flat_map}
 use Rattle.std.specs.Fmt.{digits}
-use Rattle.tipc_script.specs.Spelling.{spelling_of}
+use Rattle.tipc_load.specs.Spelling.{spelling_of}
 use Rattle.tipc_load.specs.Load.{closing, drawn, drawn_line, drawn_lines, line_text, next_state, opening}
 use Rattle.tipc_load.proofs.Drawing.{drawn_more, drawn_none, state_first, state_more, whole_script}
 use Rattle.tipc_load.proofs.load.generate.Goals as goal

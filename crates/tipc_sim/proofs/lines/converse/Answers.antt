@@ -3,15 +3,13 @@ use Rattle.tipc_world.specs.Events.{CanHappen}
 use Rattle.tipc_world.specs.States.{is_there}
 use Rattle.tipc_sim.specs.Nodes.{CanBeDone}
 use Rattle.tipc_sim.proofs.MessageLaws.{bursts_line, repeats_line, stays}
-use Rattle.tipc_sim.proofs.NodeLaws.{sending_can}
 use Rattle.tipc_world.proofs.Continuing.{continues_same}
 use Rattle.tipc_sim.proofs.lines.converse.Goals as goal
 
 pub repeat_on-requires-clause-can : goal.repeat_on-requires-clause-can
 repeat_on-requires-clause-can g c =
-    let r = c.in-Repeat in
-    let can = subst (CanBeDone (is_there c.args.world.now.state)) r.is c.requires.can in
-    subst (CanHappen c.args.world.now.state) (sym c.send-message.ensures) (can.0, sending_can r.port r.to r.importance r.body)
+    let can = subst (CanBeDone (is_there c.args.world.now.state)) c.in-Repeat.is c.requires.can in
+    (can.0, can.1)
 
 pub returns-in_ok-tell-in_default : goal.returns-in_ok-tell-in_default
 returns-in_ok-tell-in_default g c =
@@ -24,7 +22,7 @@ returns-in_ok-tell-in_default g c =
 pub returns-in-Repeat-clause-comes : goal.returns-in-Repeat-clause-comes
 returns-in-Repeat-clause-comes g c =
     let r = c.in-Repeat in
-    repeats_line c.args.line r.times r.node r.port r.to r.importance r.body c.send-message.result c.args.notes.now c.args.world.now.state c.repeat_on.new.world.state c.repeat_on.result r.is c.send-message.ensures
+    repeats_line c.args.line r.times r.node r.call c.args.notes.now c.args.world.now.state c.repeat_on.new.world.state c.repeat_on.result r.is
     (c.repeat_on.ensures.comes c.args.notes.now)
 
 pub returns-in-Burst-clause-comes : goal.returns-in-Burst-clause-comes

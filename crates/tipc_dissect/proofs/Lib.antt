@@ -1,0 +1,11 @@
+pub mod Appending
+pub mod Cutting
+pub mod Shapes
+pub mod Widths
+pub mod Back
+pub mod Heads
+pub mod Rests
+pub mod Inside
+pub mod Whole
+pub mod Telling
+pub mod Spelled

@@ -1,0 +1,5 @@
+pub mod Lines
+pub mod Table
+pub mod Packets
+pub mod Frames
+pub mod Digits
