@@ -1,12 +1,8 @@
-//! Tests of the crates of windows, contacts, links, link states and broadcast. They stand apart, so that their proof begins with what those crates have proved.
+//! Tests of the crates of windows, contacts and link states. They stand apart, so that their proof begins with what those crates have proved.
 #![tactic(auto)]
 
 #[cfg(test)]
-mod broadcast;
-#[cfg(test)]
 mod contact;
-#[cfg(test)]
-mod link;
 #[cfg(test)]
 mod link_fsm;
 #[cfg(test)]

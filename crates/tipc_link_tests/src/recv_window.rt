@@ -22,14 +22,14 @@ fn arrives(
 ) -> Result<(), Fail> {
     let packet = Bytes::from_slice(alloc, &[7])?;
     let told = window.arrive(number, packet, 40)?;
-    assert!(rt; told == place, "of {number}");
+    assert!(rt; told == place);
     Ok(())
 }
 
 /// The packet of this number is taken, with its byte and its arrival number.
 fn gives(rt: &impl Abort, window: &mut RecvWindow, wanted: u16) {
     let Some(Taken { number, packet, by }) = window.take_next() else {
-        panic!(rt; "{wanted} isn't there");
+        panic!(rt; "a packet isn't there");
     };
     assert!(rt; number == wanted && by == 40);
     assert!(rt; packet.len() == 1);

@@ -34,7 +34,7 @@ fn offers(
     let mut pieces = Pieces::new(alloc);
     pieces.push(packet(alloc, byte)?)?;
     let told = window.offer(pieces, 50);
-    assert!(rt; told == answer, "of {byte}");
+    assert!(rt; told == answer);
     Ok(last_due(window))
 }
 

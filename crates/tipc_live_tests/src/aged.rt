@@ -2,13 +2,12 @@
 
 ghost use Rattle.tipc_node_lock.specs.Locks.{IsPassOf};
 
-use crate::calling::{
-    Called, audited, call, carry, hear, node_with_caller, pass_time, take_out, two_seats,
-};
+use crate::calling::audits;
+use crate::calls::{Call, Called, hear, make, outgoing};
+use crate::plays::{Act, after, carry, pass_time};
 use std::alloc::Global;
 use std::process::Abort;
 use std::sync::Wait;
-use std::test::Fail;
 use tipc_live::*;
 use tipc_types::*;
 
@@ -18,133 +17,98 @@ const ROUND: u32 = 50;
 /// How many such rounds there are behind the frame that arrives once more: 30,050 packets, more than may be numbered since it was sent.
 const ROUNDS: u32 = 601;
 
-/// Bearer 0 is mended at both nodes, which find each other, and each makes a socket.
-fn meet<R: Wait + Abort>(rt: &R, alloc: Global, one: &mut Called<'_>, other: &mut Called<'_>)
-    requires one { IsPassOf one.old.lock one.old.pass }
-    requires other { IsPassOf other.old.lock other.old.pass }
-    ensures one { IsPassOf one.new.lock one.new.pass }
-    ensures other { IsPassOf other.new.lock other.new.pass }
-{
-    call(rt, alloc, one, EventNote::Mend { bearer: 0 });
-    call(rt, alloc, other, EventNote::Mend { bearer: 0 });
-    for _ in 0..6 {
-        pass_time(rt, alloc, one, other);
-    }
-    call(rt, alloc, one, EventNote::Socket);
-    call(rt, alloc, other, EventNote::Socket);
-}
-
-/// A node sends a message of one byte from its first socket to that of node 2.
-fn send<R: Wait + Abort>(rt: &R, alloc: Global, node: &mut Called<'_>) -> Result<(), NoMemory>
+/// A node sends so many messages.
+fn send_all<R: Wait + Abort>(rt: &R, alloc: Global, node: &mut Called<'_>)
     requires { IsPassOf node.old.lock node.old.pass }
     ensures { IsPassOf node.new.lock node.new.pass }
 {
-    let to = PortId {
-        node: Addr::node(2),
-        port: 1,
-    };
-    let note = EventNote::SendPort {
-        port: 1,
-        to,
-        importance: Importance::Low,
-        body: Body::from_slice(alloc, &[7])?,
-    };
-    assert!(rt; call(rt, alloc, node, note) == Answer::Sent);
-    Ok(())
-}
-
-/// A node takes so many messages from the inbox of its first socket.
-fn take<R: Wait + Abort>(rt: &R, node: &mut Called<'_>, count: u32)
-    requires { IsPassOf node.old.lock node.old.pass }
-    ensures { IsPassOf node.new.lock node.new.pass }
-{
-    for _ in 0..count {
-        let taken = node.lock.receive(rt, &mut node.pass, 1);
-        assert!(rt; matches!(taken, Ok(Some(_))));
+    for _ in 0..ROUND {
+        make(rt, alloc, node, &Call::Send);
     }
 }
 
 /// A round: its messages go from the first node to the second, and are acknowledged and taken.
-fn talk<R: Wait + Abort>(
-    rt: &R,
-    alloc: Global,
-    one: &mut Called<'_>,
-    other: &mut Called<'_>,
-) -> Result<(), NoMemory>
+fn talk<R: Wait + Abort>(rt: &R, alloc: Global, one: &mut Called<'_>, two: &mut Called<'_>)
     requires one { IsPassOf one.old.lock one.old.pass }
-    requires other { IsPassOf other.old.lock other.old.pass }
+    requires two { IsPassOf two.old.lock two.old.pass }
     ensures one { IsPassOf one.new.lock one.new.pass }
-    ensures other { IsPassOf other.new.lock other.new.pass }
+    ensures two { IsPassOf two.new.lock two.new.pass }
 {
-    for _ in 0..ROUND {
-        send(rt, alloc, one)?;
-    }
-    carry(rt, alloc, one, other);
-    pass_time(rt, alloc, one, other);
-    take(rt, other, ROUND);
-    Ok(())
+    send_all(rt, alloc, one);
+    carry(rt, alloc, one, two);
+    pass_time(rt, alloc, one, two);
+    make(rt, alloc, two, &Call::Take(ROUND));
 }
 
-/// Sends a message, whose frame arrives and is acknowledged, and gives that frame's bytes.
-fn first_frame<R: Wait + Abort>(
-    rt: &R,
-    alloc: Global,
-    one: &mut Called<'_>,
-    other: &mut Called<'_>,
-) -> Result<Bytes, NoMemory>
+/// All rounds.
+fn talk_on<R: Wait + Abort>(rt: &R, alloc: Global, one: &mut Called<'_>, two: &mut Called<'_>)
     requires one { IsPassOf one.old.lock one.old.pass }
-    requires other { IsPassOf other.old.lock other.old.pass }
+    requires two { IsPassOf two.old.lock two.old.pass }
     ensures one { IsPassOf one.new.lock one.new.pass }
-    ensures other { IsPassOf other.new.lock other.new.pass }
+    ensures two { IsPassOf two.new.lock two.new.pass }
 {
-    carry(rt, alloc, one, other);
-    send(rt, alloc, one)?;
-    let frames = one.lock.outgoing(rt, alloc, &mut one.pass);
+    for _ in 0..ROUNDS {
+        talk(rt, alloc, one, two);
+    }
+}
+
+/// The first frame that leaves a node.
+fn first_frame<R: Wait + Abort>(rt: &R, alloc: Global, node: &mut Called<'_>) -> Bytes
+    requires { IsPassOf node.old.lock node.old.pass }
+    ensures { IsPassOf node.new.lock node.new.pass }
+{
+    let frames = outgoing(rt, alloc, node);
     let Some(sent) = frames.frames().first() else {
         panic!(rt; "no frame left")
     };
-    hear(rt, alloc, other, 0, sent.frame.as_slice());
-    pass_time(rt, alloc, one, other);
-    take(rt, other, 1);
-    Ok(Bytes::from_slice(alloc, sent.frame.as_slice())?)
+    match Bytes::from_slice(alloc, sent.frame.as_slice()) {
+        Ok(frame) => frame,
+        Err(NoMemory) => panic!(rt; "no memory"),
+    }
 }
 
-/// A frame arrives, all rounds go on, and the frame arrives once more.
-fn hear_again<R: Wait + Abort>(
+/// A frame arrives and is acknowledged, all rounds go on, and the frame arrives once more.
+pub fn hear_again<R: Wait + Abort>(
     rt: &R,
     alloc: Global,
     one: &mut Called<'_>,
-    other: &mut Called<'_>,
-) -> Result<(), NoMemory>
+    two: &mut Called<'_>,
+)
     requires one { IsPassOf one.old.lock one.old.pass }
-    requires other { IsPassOf other.old.lock other.old.pass }
+    requires two { IsPassOf two.old.lock two.old.pass }
+    ensures one { IsPassOf one.new.lock one.new.pass }
+    ensures two { IsPassOf two.new.lock two.new.pass }
 {
-    meet(rt, alloc, one, other);
-    let frame = first_frame(rt, alloc, one, other)?;
-    for _ in 0..ROUNDS {
-        talk(rt, alloc, one, other)?;
-    }
-    hear(rt, alloc, other, 0, frame.as_slice());
-    Ok(())
+    make(rt, alloc, one, &Call::Send);
+    let frame = first_frame(rt, alloc, one);
+    hear(rt, alloc, two, 0, frame.as_slice());
+    pass_time(rt, alloc, one, two);
+    make(rt, alloc, two, &Call::Take(1));
+    talk_on(rt, alloc, one, two);
+    hear(rt, alloc, two, 0, frame.as_slice());
 }
 
+/// Bearer 0 is mended at both nodes, which find each other, and each makes a socket; what left meanwhile arrives, and then a frame is heard again.
+static AGED: [Act; 7] = [
+    Act::One(Call::Mend(false)),
+    Act::Two(Call::Mend(false)),
+    Act::PassTime(6),
+    Act::One(Call::Socket(false)),
+    Act::Two(Call::Socket(true)),
+    Act::Carry,
+    Act::HearAgain,
+];
+
 #[test]
-fn a_frame_that_is_too_old_is_found(rt: HostRuntime) -> Result<(), Fail> {
+fn a_frame_that_is_too_old_is_found(rt: HostRuntime) {
     let alloc = rt.alloc();
-    let (stamps, seat, other_seat) = two_seats(&rt, alloc)?;
-    let mut one = node_with_caller(&rt, alloc, 1, &stamps, seat)?;
-    let mut other = node_with_caller(&rt, alloc, 2, &stamps, other_seat)?;
-    hear_again(&rt, alloc, &mut one, &mut other)?;
-    let mut nodes = Vec::new(alloc);
-    nodes.push(take_out(&rt, alloc, one)?)?;
-    nodes.push(take_out(&rt, alloc, other)?)?;
+    let nodes = after(&rt, alloc, &AGED);
+    assert!(&rt; nodes.len() == 2);
     let last = (nodes[1].heard().len() as u64).saturating_sub(1);
-    let answer = audited(&rt, alloc, nodes)?;
     let expected = Audit::TooOld {
         node: 2,
         number: last,
         count: 30050,
     };
-    assert!(&rt; answer == expected);
-    Ok(())
+    audits(&rt, alloc, nodes, &expected);
 }

@@ -1,17 +1,15 @@
 //! Nodes behind their locks, which one thread calls, and the audit of what comes of it.
 
-ghost use Rattle.std.specs.Prelude.{◌≡◌, ◌≤◌, false, IfOk};
+ghost use Rattle.std.specs.Prelude.{◌≡◌, ◌≤◌, IfOk};
 ghost use Rattle.tipc_types.specs.Address.{node_word};
-ghost use Rattle.tipc_node.specs.Calls.{CanPerform};
 ghost use Rattle.tipc_node_lock.specs.Locks.{IsPassOf};
-ghost use Rattle.tipc_node_lock.specs.Sections.{is_receive};
 
+use crate::calls::{Call, Called, make_all};
 use std::alloc::Global;
 use std::process::Abort;
 use std::sync::Wait;
 use tipc_live::*;
 use tipc_node_lock::*;
-use tipc_outside::Outbox;
 use tipc_pick::{Chooser, RoundRobin};
 use tipc_stamp::{StampSeat, Stamps};
 use tipc_types::*;
@@ -19,22 +17,17 @@ use tipc_types::*;
 /// A node of the tests, taken out of its lock.
 pub type Node = LockedNode<RoundRobin>;
 
-/// A node behind its lock, and the pass of its one caller.
-#[derive(Drop)]
-pub struct Called<'s> {
-    pub lock: NodeLock<'s, RoundRobin>,
-    pub pass: Pass,
-}
-
-/// Node `n` in its first boot, with one caller that has this seat.
+/// Node `n` in this boot, with one caller that has this seat.
 pub fn node_with_caller<'s>(
     rt: &impl Abort,
     alloc: Global,
     n: u8,
+    boot: u32,
     stamps: &'s Stamps,
     seat: StampSeat,
 ) -> Result<Called<'s>, NoMemory>
     requires node { (1 ≤ n) × (n ≤ 32) }
+    requires boot { 1 ≤ boot }
     requires seat { seat.of_table ≡ stamps.now }
     ensures pass { IfOk result (λ c. IsPassOf c.lock c.pass) }
     ensures seat { IfOk result (λ c. c.pass.seat.of_table ≡ stamps.now) }
@@ -43,7 +36,7 @@ pub fn node_with_caller<'s>(
     let chooser = Chooser::new(RoundRobin);
     let mut seats = Vec::new(alloc);
     seats.push(seat)?;
-    let (lock, mut passes) = NodeLock::new(alloc, Addr::node(n), 1, chooser, 1, stamps, seats)?;
+    let (lock, mut passes) = NodeLock::new(alloc, Addr::node(n), boot, chooser, 1, stamps, seats)?;
     match passes.pop() {
         Some(pass) => Ok(Called { lock, pass }),
         None => panic!(rt; "no pass"),
@@ -51,107 +44,116 @@ pub fn node_with_caller<'s>(
 }
 
 /// New stamps, with a seat of theirs.
-pub fn one_seat(rt: &impl Abort, alloc: Global) -> Result<(Stamps, StampSeat), NoMemory>
-    ensures { IfOk result (λ r. r.1.of_table ≡ r.0) }
+pub fn one_seat(rt: &impl Abort, alloc: Global) -> (Stamps, StampSeat)
+    ensures { result.1.of_table ≡ result.0 }
 {
-    let (stamps, mut seats) = Stamps::new(alloc, 1)?;
+    let Ok((stamps, mut seats)) = Stamps::new(alloc, 1) else {
+        panic!(rt; "no memory")
+    };
     match seats.pop() {
-        Some(seat) => Ok((stamps, seat)),
+        Some(seat) => (stamps, seat),
         None => panic!(rt; "no seat"),
     }
 }
 
 /// New stamps, with two seats of theirs.
-pub fn two_seats(rt: &impl Abort, alloc: Global) -> Result<(Stamps, StampSeat, StampSeat), NoMemory>
-    ensures { IfOk result (λ r. (r.1.of_table ≡ r.0) × (r.2.of_table ≡ r.0)) }
+pub fn two_seats(rt: &impl Abort, alloc: Global) -> (Stamps, StampSeat, StampSeat)
+    ensures { (result.1.of_table ≡ result.0) × (result.2.of_table ≡ result.0) }
 {
-    let (stamps, mut seats) = Stamps::new(alloc, 2)?;
-    if let (Some(second), Some(first)) = (seats.pop(), seats.pop()) {
-        return Ok((stamps, first, second));
-    }
-    panic!(rt; "no two seats")
-}
-
-/// Makes a call, and tells its answer.
-pub fn call<R: Wait + Abort>(
-    rt: &R,
-    alloc: Global,
-    node: &mut Called<'_>,
-    call: EventNote,
-) -> Answer
-    requires pass { IsPassOf node.old.lock node.old.pass }
-    requires can { CanPerform call }
-    requires locked { is_receive call ≡ false }
-    ensures { IsPassOf node.new.lock node.new.pass }
-{
-    match node.lock.perform(rt, alloc, &mut node.pass, call) {
-        Ok(answer) => answer,
-        Err(_) => panic!(rt; "not made"),
+    let Ok((stamps, mut seats)) = Stamps::new(alloc, 2) else {
+        panic!(rt; "no memory")
+    };
+    match (seats.pop(), seats.pop()) {
+        (Some(second), Some(first)) => (stamps, first, second),
+        _ => panic!(rt; "no two seats"),
     }
 }
 
-/// A frame arrives at a node.
-pub fn hear<R: Wait + Abort>(rt: &R, alloc: Global, node: &mut Called<'_>, bearer: u8, frame: &[u8])
-    requires pass { IsPassOf node.old.lock node.old.pass }
-    requires bearer { bearer ≤ 1 }
-    ensures { IsPassOf node.new.lock node.new.pass }
-{
-    let heard = node.lock.arrive(rt, alloc, &mut node.pass, bearer, frame);
-    assert!(rt; heard.is_ok());
-}
-
-/// What leaves a node arrives at another.
-pub fn carry<R: Wait + Abort>(rt: &R, alloc: Global, from: &mut Called<'_>, to: &mut Called<'_>)
-    requires from { IsPassOf from.old.lock from.old.pass }
-    requires to { IsPassOf to.old.lock to.old.pass }
-    ensures from { IsPassOf from.new.lock from.new.pass }
-    ensures to { IsPassOf to.new.lock to.new.pass }
-{
-    let frames = from.lock.outgoing(rt, alloc, &mut from.pass);
-    for sent in frames.frames() {
-        let bearer = if sent.bearer == 0 { 0 } else { 1 };
-        hear(rt, alloc, to, bearer, sent.frame.as_slice());
+/// A pass by itself.
+fn only(rt: &impl Abort, alloc: Global, pass: Pass) -> Vec<Pass> {
+    let mut passes = Vec::new(alloc);
+    match passes.push(pass) {
+        Ok(()) => passes,
+        Err(_) => panic!(rt; "no memory"),
     }
-}
-
-/// A tick at both nodes, and what leaves them arrives.
-pub fn pass_time<R: Wait + Abort>(
-    rt: &R,
-    alloc: Global,
-    one: &mut Called<'_>,
-    other: &mut Called<'_>,
-)
-    requires one { IsPassOf one.old.lock one.old.pass }
-    requires other { IsPassOf other.old.lock other.old.pass }
-    ensures one { IsPassOf one.new.lock one.new.pass }
-    ensures other { IsPassOf other.new.lock other.new.pass }
-{
-    call(rt, alloc, one, EventNote::Tick);
-    call(rt, alloc, other, EventNote::Tick);
-    carry(rt, alloc, one, other);
-    carry(rt, alloc, other, one);
 }
 
 /// Takes a node out of its lock with its pass.
-pub fn take_out(rt: &impl Abort, alloc: Global, node: Called<'_>) -> Result<Node, NoMemory> {
+fn take_out(rt: &impl Abort, alloc: Global, node: Called<'_>) -> Node {
     let Called { lock, pass } = node;
-    let mut passes = Vec::new(alloc);
-    passes.push(pass)?;
-    match lock.into_locked(passes) {
-        Ok(node) => Ok(node),
+    match lock.into_locked(only(rt, alloc, pass)) {
+        Ok(node) => node,
         Err(_) => panic!(rt; "a pass is missing"),
     }
 }
 
+/// Adds a node.
+pub fn add(rt: &impl Abort, nodes: &mut Vec<Node>, node: Node) {
+    match nodes.push(node) {
+        Ok(()) => {}
+        Err(_) => panic!(rt; "no memory"),
+    }
+}
+
+/// A node by itself.
+pub fn alone(rt: &impl Abort, alloc: Global, node: Called<'_>) -> Vec<Node> {
+    let mut nodes = Vec::new(alloc);
+    add(rt, &mut nodes, take_out(rt, alloc, node));
+    nodes
+}
+
+/// Both nodes.
+pub fn both(rt: &impl Abort, alloc: Global, one: Called<'_>, other: Called<'_>) -> Vec<Node> {
+    let mut nodes = Vec::new(alloc);
+    add(rt, &mut nodes, take_out(rt, alloc, one));
+    add(rt, &mut nodes, take_out(rt, alloc, other));
+    nodes
+}
+
+/// A node makes these calls with this seat.
+fn called<R: Wait + Abort>(
+    rt: &R,
+    alloc: Global,
+    n: u8,
+    stamps: &Stamps,
+    seat: StampSeat,
+    calls: &[Call],
+) -> Vec<Node>
+    requires node { (1 ≤ n) × (n ≤ 32) }
+    requires seat { seat.of_table ≡ stamps.now }
+{
+    let Ok(mut node) = node_with_caller(rt, alloc, n, 1, stamps, seat) else {
+        panic!(rt; "no memory")
+    };
+    make_all(rt, alloc, &mut node, calls);
+    alone(rt, alloc, node)
+}
+
+/// A node in its first boot, which made these calls.
+pub fn after_calls<R: Wait + Abort>(rt: &R, alloc: Global, n: u8, calls: &[Call]) -> Vec<Node>
+    requires { (1 ≤ n) × (n ≤ 32) }
+{
+    let (stamps, seat) = one_seat(rt, alloc);
+    called(rt, alloc, n, &stamps, seat, calls)
+}
+
 /// What the audit of these nodes answers.
-pub fn audited(rt: &impl Abort, alloc: Global, nodes: Vec<Node>) -> Result<Audit, NoMemory> {
+fn audited(rt: &impl Abort, alloc: Global, nodes: Vec<Node>) -> Audit {
     let mut gathered: Gathered<RoundRobin, u8> = Gathered::new(alloc);
     gathered.gather(nodes, Vec::new(alloc));
     if !can_audit(gathered.nodes()) {
         panic!(rt; "nodes that can't be audited together");
     }
-    let answer = gathered.audit(alloc)?;
+    let Ok(answer) = gathered.audit(alloc) else {
+        panic!(rt; "no memory")
+    };
     gathered.replay().good();
     assert!(rt; gathered.bearers().is_empty());
-    Ok(answer)
+    answer
+}
+
+/// This is what the audit of these nodes answers.
+pub fn audits(rt: &impl Abort, alloc: Global, nodes: Vec<Node>, expected: &Audit) {
+    let answer = audited(rt, alloc, nodes);
+    assert!(rt; answer == *expected);
 }

@@ -7,6 +7,10 @@ mod aged;
 #[cfg(test)]
 mod calling;
 #[cfg(test)]
+mod calls;
+#[cfg(test)]
 mod honest;
+#[cfg(test)]
+mod plays;
 #[cfg(test)]
 mod twisted;

@@ -4,116 +4,112 @@ ghost use Rattle.std.specs.Prelude.{◌≡◌};
 ghost use Rattle.tipc_node_lock.specs.Locks.{IsPassOf};
 
 use crate::calling::{
-    Called, Node, audited, call, carry, hear, node_with_caller, one_seat, take_out, two_seats,
+    Node, add, after_calls, alone, audits, node_with_caller, one_seat, two_seats,
 };
+use crate::calls::{Call, Called, perform};
+use crate::plays::{Act, after, after_apart};
 use std::alloc::Global;
 use std::process::Abort;
 use std::sync::Wait;
-use std::test::Fail;
 use tipc_journal::Entry;
 use tipc_live::*;
 use tipc_node_lock::*;
 use tipc_pick::{Chooser, RoundRobin};
-use tipc_stamp::Stamps;
+use tipc_stamp::{StampSeat, Stamps};
 use tipc_types::*;
+
+/// A frame arrives that nobody sent.
+static NOBODYS: [Call; 2] = [Call::Mend(false), Call::Hear(&[1, 2, 3])];
+
+#[test]
+fn a_frame_that_nobody_sent_is_found(rt: HostRuntime) {
+    let nodes = after_calls(&rt, rt.alloc(), 3, &NOBODYS);
+    let expected = Audit::NoFrame { node: 3, number: 0 };
+    audits(&rt, rt.alloc(), nodes, &expected);
+}
+
+/// Node 1 asks on bearer 0, and node 2 on bearer 1, where it hears what node 1 asked.
+static ASTRAY: [Act; 3] = [
+    Act::One(Call::Mend(false)),
+    Act::Two(Call::Mend(true)),
+    Act::Astray,
+];
+
+#[test]
+fn a_frame_of_another_bearer_is_none(rt: HostRuntime) {
+    let nodes = after(&rt, rt.alloc(), &ASTRAY);
+    let expected = Audit::NoFrame { node: 2, number: 0 };
+    audits(&rt, rt.alloc(), nodes, &expected);
+}
+
+/// A tick passes at node 1, and two at node 2.
+static TICKS: [Act; 3] = [
+    Act::One(Call::Tick),
+    Act::Two(Call::Tick),
+    Act::Two(Call::Tick),
+];
+
+#[test]
+fn a_stamp_of_two_nodes_is_found(rt: HostRuntime) {
+    let nodes = after_apart(&rt, rt.alloc(), &TICKS);
+    audits(&rt, rt.alloc(), nodes, &Audit::Twice { stamp: 0 });
+}
 
 /// A tick at the node of a lock.
 fn tick<R: Wait + Abort>(rt: &R, alloc: Global, lock: &NodeLock<'_, RoundRobin>, pass: &mut Pass)
     requires { IsPassOf lock.now pass.old }
     ensures { IsPassOf lock.now pass.new }
 {
-    let made = lock.perform(rt, alloc, pass, EventNote::Tick);
+    let made = perform(rt, alloc, lock, pass, EventNote::Tick);
     assert!(rt; made.is_ok());
 }
 
-/// The node alone.
-fn alone(rt: &impl Abort, alloc: Global, node: Called<'_>) -> Result<Audit, NoMemory> {
-    let mut nodes = Vec::new(alloc);
-    nodes.push(take_out(rt, alloc, node)?)?;
-    audited(rt, alloc, nodes)
-}
-
-#[test]
-fn a_frame_that_nobody_sent_is_found(rt: HostRuntime) -> Result<(), Fail> {
-    let alloc = rt.alloc();
-    let (stamps, seat) = one_seat(&rt, alloc)?;
-    let mut node = node_with_caller(&rt, alloc, 3, &stamps, seat)?;
-    call(&rt, alloc, &mut node, EventNote::Mend { bearer: 0 });
-    hear(&rt, alloc, &mut node, 0, &[1, 2, 3]);
-    let answer = alone(&rt, alloc, node)?;
-    let expected = Audit::NoFrame { node: 3, number: 0 };
-    assert!(&rt; answer == expected);
-    Ok(())
-}
-
-/// Each of two nodes asks on bearer 0, and what the first asked arrives at the second on bearer 1.
-fn hear_on_the_other_bearer<R: Wait + Abort>(
+/// Node 1, whose caller let a tick pass there, and another one behind another lock.
+fn called_elsewhere<R: Wait + Abort>(
     rt: &R,
     alloc: Global,
-    one: &mut Called<'_>,
-    other: &mut Called<'_>,
-)
-    requires one { IsPassOf one.old.lock one.old.pass }
-    requires other { IsPassOf other.old.lock other.old.pass }
+    stamps: &Stamps,
+    seat: StampSeat,
+    twin_seat: StampSeat,
+) -> Vec<Node>
+    requires seat { seat.of_table ≡ stamps.now }
+    requires twin { twin_seat.of_table ≡ stamps.now }
 {
-    call(rt, alloc, one, EventNote::Mend { bearer: 0 });
-    call(rt, alloc, other, EventNote::Mend { bearer: 1 });
-    let frames = one.lock.outgoing(rt, alloc, &mut one.pass);
-    for sent in frames.frames() {
-        hear(rt, alloc, other, 1, sent.frame.as_slice());
-    }
+    let Ok(Called { lock, mut pass }) = node_with_caller(rt, alloc, 1, 1, stamps, seat) else {
+        panic!(rt; "no memory")
+    };
+    let Ok(twin) = node_with_caller(rt, alloc, 1, 1, stamps, twin_seat) else {
+        panic!(rt; "no memory")
+    };
+    tick(rt, alloc, &lock, &mut pass);
+    tick(rt, alloc, &twin.lock, &mut pass);
+    alone(rt, alloc, Called { lock, pass })
 }
 
 #[test]
-fn a_frame_of_another_bearer_is_none(rt: HostRuntime) -> Result<(), Fail> {
-    let alloc = rt.alloc();
-    let (stamps, seat, other_seat) = two_seats(&rt, alloc)?;
-    let mut one = node_with_caller(&rt, alloc, 1, &stamps, seat)?;
-    let mut other = node_with_caller(&rt, alloc, 2, &stamps, other_seat)?;
-    hear_on_the_other_bearer(&rt, alloc, &mut one, &mut other);
-    let mut nodes = Vec::new(alloc);
-    nodes.push(take_out(&rt, alloc, one)?)?;
-    nodes.push(take_out(&rt, alloc, other)?)?;
-    let answer = audited(&rt, alloc, nodes)?;
-    let expected = Audit::NoFrame { node: 2, number: 0 };
-    assert!(&rt; answer == expected);
-    Ok(())
-}
-
-#[test]
-fn a_stamp_of_two_nodes_is_found(rt: HostRuntime) -> Result<(), Fail> {
-    let alloc = rt.alloc();
-    let (stamps, seat) = one_seat(&rt, alloc)?;
-    let (others, their_seat) = one_seat(&rt, alloc)?;
-    let mut one = node_with_caller(&rt, alloc, 1, &stamps, seat)?;
-    let mut other = node_with_caller(&rt, alloc, 2, &others, their_seat)?;
-    call(&rt, alloc, &mut one, EventNote::Tick);
-    call(&rt, alloc, &mut other, EventNote::Tick);
-    call(&rt, alloc, &mut other, EventNote::Tick);
-    let mut nodes = Vec::new(alloc);
-    nodes.push(take_out(&rt, alloc, one)?)?;
-    nodes.push(take_out(&rt, alloc, other)?)?;
-    let answer = audited(&rt, alloc, nodes)?;
-    assert!(&rt; answer == Audit::Twice { stamp: 0 });
-    Ok(())
-}
-
-#[test]
-fn a_call_that_another_lock_made_is_told(rt: HostRuntime) -> Result<(), Fail> {
-    let alloc = rt.alloc();
-    let (stamps, seat, twin_seat) = two_seats(&rt, alloc)?;
-    let Called { lock, mut pass } = node_with_caller(&rt, alloc, 1, &stamps, seat)?;
-    let twin = node_with_caller(&rt, alloc, 1, &stamps, twin_seat)?;
-    tick(&rt, alloc, &lock, &mut pass);
-    tick(&rt, alloc, &twin.lock, &mut pass);
-    let answer = alone(&rt, alloc, Called { lock, pass })?;
+fn a_call_that_another_lock_made_is_told(rt: HostRuntime) {
+    let (stamps, seat, twin_seat) = two_seats(&rt, rt.alloc());
+    let nodes = called_elsewhere(&rt, rt.alloc(), &stamps, seat, twin_seat);
     let expected = Audit::Told {
         node: 1,
         caller: 1,
         call: 1,
     };
-    assert!(&rt; answer == expected);
-    Ok(())
+    audits(&rt, rt.alloc(), nodes, &expected);
+}
+
+/// A tick at a node that isn't behind a lock, under the next stamp of these.
+fn tick_bare<R: Wait + Abort>(
+    rt: &R,
+    alloc: Global,
+    node: &mut Node,
+    stamps: &Stamps,
+    pass: &mut Pass,
+)
+    requires { pass.old.seat.of_table ≡ stamps.now }
+{
+    let made = node.perform(rt, alloc, stamps, pass, EventNote::Tick);
+    assert!(rt; made.is_ok());
 }
 
 /// Node 1, at which each of two callers lets a tick pass, the first under a stamp of these stamps and the second under one of the others.
@@ -124,31 +120,55 @@ fn ticked_by_both<R: Wait + Abort>(
     others: &Stamps,
     first: &mut Pass,
     second: &mut Pass,
-) -> Result<Node, NoMemory>
+) -> Node
     requires first { first.old.seat.of_table ≡ stamps.now }
     requires second { second.old.seat.of_table ≡ others.now }
 {
     let chooser = Chooser::new(RoundRobin);
-    let mut node = LockedNode::new(alloc, Addr::node(1), 1, chooser)?;
-    let one = node.perform(rt, alloc, stamps, first, EventNote::Tick);
-    let other = node.perform(rt, alloc, others, second, EventNote::Tick);
-    assert!(rt; one.is_ok() && other.is_ok());
-    Ok(node)
+    let Ok(mut node) = LockedNode::new(alloc, Addr::node(1), 1, chooser) else {
+        panic!(rt; "no memory")
+    };
+    tick_bare(rt, alloc, &mut node, stamps, first);
+    tick_bare(rt, alloc, &mut node, others, second);
+    node
+}
+
+/// The same, where the first caller drew a stamp before.
+fn turned_round<R: Wait + Abort>(
+    rt: &R,
+    alloc: Global,
+    stamps: &Stamps,
+    seat: StampSeat,
+    others: &Stamps,
+    their_seat: StampSeat,
+) -> Vec<Node>
+    requires seat { seat.of_table ≡ stamps.now }
+    requires their { their_seat.of_table ≡ others.now }
+{
+    let Ok(
+        Called {
+            lock,
+            pass: mut late,
+        },
+    ) = node_with_caller(rt, alloc, 1, 1, stamps, seat)
+    else {
+        panic!(rt; "no memory")
+    };
+    let Ok(mut early) = node_with_caller(rt, alloc, 1, 1, others, their_seat) else {
+        panic!(rt; "no memory")
+    };
+    tick(rt, alloc, &lock, &mut late);
+    let node = ticked_by_both(rt, alloc, stamps, others, &mut late, &mut early.pass);
+    let mut nodes = Vec::new(alloc);
+    add(rt, &mut nodes, node);
+    nodes
 }
 
 #[test]
-fn stamps_that_are_turned_round_are_found(rt: HostRuntime) -> Result<(), Fail> {
-    let alloc = rt.alloc();
-    let (stamps, seat) = one_seat(&rt, alloc)?;
-    let (others, their_seat) = one_seat(&rt, alloc)?;
-    let Called {
-        lock,
-        pass: mut late,
-    } = node_with_caller(&rt, alloc, 1, &stamps, seat)?;
-    let mut early = node_with_caller(&rt, alloc, 1, &others, their_seat)?;
-    tick(&rt, alloc, &lock, &mut late);
-    let mut nodes = Vec::new(alloc);
-    nodes.push(ticked_by_both(&rt, alloc, &stamps, &others, &mut late, &mut early.pass)?)?;
+fn stamps_that_are_turned_round_are_found(rt: HostRuntime) {
+    let (stamps, seat) = one_seat(&rt, rt.alloc());
+    let (others, their_seat) = one_seat(&rt, rt.alloc());
+    let nodes = turned_round(&rt, rt.alloc(), &stamps, seat, &others, their_seat);
     let by = By {
         stamp: 0,
         caller: 1,
@@ -163,7 +183,5 @@ fn stamps_that_are_turned_round_are_found(rt: HostRuntime) -> Result<(), Fail> {
         },
         replayed: None,
     };
-    let answer = audited(&rt, alloc, nodes)?;
-    assert!(&rt; answer == expected);
-    Ok(())
+    audits(&rt, rt.alloc(), nodes, &expected);
 }

@@ -1,13 +1,13 @@
 //! For each reason a frame that is ignored for it, at a node that has one peer; and what the same frames are to the node in its next boot.
 
-use crate::peers::{arrive, calls, link, new_node};
+use crate::peers::{arrive, calls, link, new_node, node_in};
 use std::alloc::Global;
 use std::process::Abort;
 use std::test::Fail;
 use tipc_journal::Entry;
 use tipc_node::Node;
 use tipc_outside::Outbox;
-use tipc_types::{Addr, Answer, Arrival, EventNote, NoMemory, Why};
+use tipc_types::{Answer, Arrival, EventNote, NoMemory, Why};
 
 /// The frame of a message of node 1 to port 1 of node 2, its first packet on the link: two epochs, and the header.
 static MESSAGE: [u32; 12] = [
@@ -98,6 +98,42 @@ static REQUEST: [u32; 14] = [
     0,
 ];
 
+/// The same of another network.
+static OTHER_NETWORK: [u32; 14] = [
+    0,
+    1,
+    0,
+    0,
+    0x5b50_0028,
+    0,
+    0,
+    0x0100_1003,
+    4_712,
+    0,
+    0,
+    0,
+    0,
+    0,
+];
+
+/// That of node 32.
+static LAST_REQUEST: [u32; 14] = [
+    0,
+    1,
+    0,
+    0,
+    0x5b50_0028,
+    0,
+    0,
+    0x0100_1020,
+    4_711,
+    0,
+    0,
+    0,
+    0,
+    0,
+];
+
 /// A frame.
 #[derive(Clone, Copy)]
 enum Frame {
@@ -115,6 +151,10 @@ enum Frame {
     Multicast,
     /// The request.
     Request,
+    /// The request of a node of another network.
+    OtherNetwork,
+    /// The request of node 32.
+    LastRequest,
 }
 
 /// A frame that arrives, and what is answered.
@@ -130,7 +170,7 @@ enum Heard {
 }
 
 /// What isn't a packet of another node of the cluster, whatever the links are.
-static NO_PACKETS: [Heard; 14] = [
+static NO_PACKETS: [Heard; 18] = [
     Heard::Cut(Frame::Message),
     Heard::Cut(Frame::Empty),
     Heard::Whole(Frame::Short, Arrival::Ignored(Why::Envelope)),
@@ -144,7 +184,11 @@ static NO_PACKETS: [Heard; 14] = [
     Heard::Changed(Frame::Message, 7, 0x0100_1002, Why::Own),
     Heard::Changed(Frame::Message, 7, 0x0100_1021, Why::Own),
     Heard::Changed(Frame::Message, 7, 0x0100_1000, Why::Own),
-    Heard::Changed(Frame::Request, 8, 4_712, Why::Network),
+    Heard::Changed(Frame::Request, 7, 0x0100_1002, Why::Own),
+    Heard::Changed(Frame::Request, 7, 0x0100_1021, Why::Own),
+    Heard::Changed(Frame::Request, 7, 0x0100_1000, Why::Own),
+    Heard::Changed(Frame::OtherNetwork, 7, 0x0100_1002, Why::Own),
+    Heard::Whole(Frame::OtherNetwork, Arrival::Ignored(Why::Network)),
 ];
 
 /// Link packets: those of a stranger or of another session are ignored, one is taken once, and a bundle that can't be taken apart gives nothing.
@@ -169,8 +213,8 @@ static BROADCASTS: [Heard; 7] = [
     Heard::Whole(Frame::Multicast, Arrival::Ignored(Why::Old)),
 ];
 
-/// What the same frames are to a node that knows nobody.
-static OF_STRANGERS: [Heard; 9] = [
+/// What the same frames are to a node that knows nobody, and those of the nodes that it finds then.
+static OF_STRANGERS: [Heard; 12] = [
     Heard::Changed(Frame::Message, 7, 0x0100_1003, Why::Unknown),
     Heard::Changed(Frame::Message, 1, 2, Why::Unknown),
     Heard::Changed(Frame::Message, 0, 2, Why::Unknown),
@@ -180,6 +224,9 @@ static OF_STRANGERS: [Heard; 9] = [
     Heard::Whole(Frame::BadBundle, Arrival::Ignored(Why::Unknown)),
     Heard::Whole(Frame::Multicast, Arrival::Ignored(Why::Unknown)),
     Heard::Whole(Frame::Request, Arrival::Took(0)),
+    Heard::Whole(Frame::Request, Arrival::Took(0)),
+    Heard::Whole(Frame::LastRequest, Arrival::Took(0)),
+    Heard::Whole(Frame::OtherNetwork, Arrival::Ignored(Why::Network)),
 ];
 
 impl Heard {
@@ -232,6 +279,8 @@ fn words_of(frame: Frame) -> &'static [u32] {
         Frame::BadBundle => &BAD_BUNDLE,
         Frame::Multicast => &MULTICAST,
         Frame::Request => &REQUEST,
+        Frame::OtherNetwork => &OTHER_NETWORK,
+        Frame::LastRequest => &LAST_REQUEST,
     }
 }
 
@@ -241,7 +290,7 @@ fn body_of(frame: Frame) -> &'static [u8] {
         Frame::Short => b"abc",
         Frame::Message => b"hello",
         Frame::Multicast => b"m",
-        Frame::Empty | Frame::Envelope | Frame::BadBundle | Frame::Request => b"",
+        _ => b"",
     }
 }
 
@@ -331,6 +380,6 @@ fn a_frame_is_ignored_for_the_first_reason(rt: HostRuntime) -> Result<(), Fail> 
 
 #[test]
 fn in_its_next_boot_a_node_knows_nobody(rt: HostRuntime) -> Result<(), Fail> {
-    let mut node = Node::new(rt.alloc(), Addr::node(2), 2)?;
+    let mut node = node_in(rt.alloc(), 2, 2)?;
     hears_of_strangers(&rt, rt.alloc(), &mut node)
 }

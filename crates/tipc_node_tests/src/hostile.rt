@@ -85,6 +85,18 @@ fn changed(
     Ok(bytes)
 }
 
+/// How a range is published at port 1.
+fn publishing(range: ServiceRange) -> EventNote
+    ensures { CanPerform result }
+{
+    EventNote::Publish {
+        port: 1,
+        range,
+        scope: Scope::Cluster,
+        key: 7,
+    }
+}
+
 /// A node publishes at its port 1.
 fn publishes(
     rt: &impl Abort,
@@ -92,13 +104,8 @@ fn publishes(
     node: &mut Node,
     out: &mut Outbox,
 ) -> Result<(), Fail> {
-    let publish = EventNote::Publish {
-        port: 1,
-        range: ServiceRange::new(100, 0, 9)?,
-        scope: Scope::Cluster,
-        key: 7,
-    };
-    calls(rt, alloc, node, publish, Answer::Done, out)
+    let range = ServiceRange::new(100, 0, 9)?;
+    calls(rt, alloc, node, publishing(range), Answer::Done, out)
 }
 
 /// How a message of these bytes is sent to port 1 of a node.

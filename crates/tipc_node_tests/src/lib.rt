@@ -1,4 +1,4 @@
-//! Tests of what a node makes of any bytes that arrive. They stand apart, so that their proof begins with what the crates below have proved.
+//! Tests of what a node makes of any bytes that arrive, and of calls that were promised their memory. They stand apart, so that their proof begins with what the crates below have proved.
 #![tactic(auto)]
 
 #[cfg(test)]
@@ -7,3 +7,5 @@ mod frames;
 mod hostile;
 #[cfg(test)]
 mod peers;
+#[cfg(test)]
+mod promising;

@@ -126,9 +126,17 @@ pub fn link(
     Ok(())
 }
 
+/// Node 1 or 2 in a boot.
+pub fn node_in(alloc: Global, number: u8, boot: u32) -> Result<Node, NoMemory>
+    requires number { (1 ≤ number) × (number ≤ 2) }
+    requires boot { 1 ≤ boot }
+{
+    Node::new(alloc, Addr::node(number), boot)
+}
+
 /// Node 1 or 2 in its first boot.
 pub fn new_node(alloc: Global, number: u8) -> Result<Node, NoMemory>
     requires { (1 ≤ number) × (number ≤ 2) }
 {
-    Node::new(alloc, Addr::node(number), 1)
+    node_in(alloc, number, 1)
 }

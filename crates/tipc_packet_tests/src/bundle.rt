@@ -1,5 +1,7 @@
 //! Tests of bundles: small messages are joined and taken apart, and the first bad place is told.
 
+ghost use Rattle.std.specs.Prelude.{◌≤◌};
+
 use std::alloc::Global;
 use std::process::Abort;
 use std::test::Fail;
@@ -7,29 +9,42 @@ use tipc_bundle::*;
 use tipc_header::{Header, decode};
 use tipc_types::{Bytes, Inner, NoMemory};
 
-/// These words as bytes.
-fn bytes_of(alloc: Global, words: &[u32]) -> Result<Vec<u8>, NoMemory> {
-    let mut bytes = Vec::new(alloc);
+/// A direct message from port 1 of node 1.1.1 to port 1 of node 1.1.2, behind word 0.
+static DIRECT: [u32; 7] = [0x6000_0000, 0, 0, 1, 1, 0x0100_1001, 0x0100_1002];
+
+/// A bundle of two messages of 33 bytes: version 2, user 6, 10 words of header, 112 bytes in all; 2 inner packets.
+static TWO: [u32; 10] = [0x4d40_0070, 0, 0, 0, 0x0002_0000, 0, 0, 0, 0, 0];
+
+/// The same of 116 bytes, of a message of 36 bytes and a STATE of 40.
+static WITH_STATE: [u32; 10] = [0x4d40_0074, 0, 0, 0, 0x0002_0000, 0, 0, 0, 0, 0];
+
+/// That STATE.
+static STATE: [u32; 10] = [
+    0x4f50_0028,
+    0x1fff_0003,
+    0xfffe_0000,
+    0x0100_1001,
+    0x0007_0008,
+    0x0009_000a,
+    0,
+    0x0100_1002,
+    0x29,
+    0,
+];
+
+/// Adds these words.
+fn add_words(bytes: &mut Vec<u8>, words: &[u32]) -> Result<(), NoMemory> {
     for word in words {
         bytes.extend_from_slice(&word.to_be_bytes())?;
     }
-    Ok(bytes)
+    Ok(())
 }
 
-/// A direct message from port 1 of node 1.1.1 to port 1 of node 1.1.2. It has so many bytes, 32 of them in its header, and
-/// each byte of its body is 7.
+/// A direct message. It has so many bytes, 32 of them in its header, and each byte of its body is 7.
 fn message(alloc: Global, size: u32) -> Result<Bytes, NoMemory> {
-    let words = [
-        0x4100_0000 | size,
-        0x6000_0000,
-        0,
-        0,
-        1,
-        1,
-        0x0100_1001,
-        0x0100_1002,
-    ];
-    let mut bytes = bytes_of(alloc, &words)?;
+    let mut bytes = Vec::new(alloc);
+    add_words(&mut bytes, &[0x4100_0000 | size])?;
+    add_words(&mut bytes, &DIRECT)?;
     bytes.resize(size as usize, 7)?;
     Ok(Bytes::from_vec(bytes))
 }
@@ -54,6 +69,18 @@ fn joined(
     Ok(last)
 }
 
+/// The bundle of so many messages of 33 bytes.
+fn bundle_of(rt: &impl Abort, alloc: Global, count: u32) -> Result<Bytes, NoMemory>
+    requires { 1 ≤ count }
+{
+    let first = message(alloc, 33)?;
+    let packet = message(alloc, 33)?;
+    match joined(rt, alloc, first, packet.as_slice(), count - 1) {
+        Ok(bundle) => Ok(bundle),
+        Err(_) => panic!(rt; "they are no bundle"),
+    }
+}
+
 /// What stands in a bundle.
 fn taken_apart(rt: &impl Abort, alloc: Global, bundle: &[u8]) -> Result<Inner, SplitFault> {
     let Ok(packet) = decode(bundle) else {
@@ -65,119 +92,148 @@ fn taken_apart(rt: &impl Abort, alloc: Global, bundle: &[u8]) -> Result<Inner, S
     }
 }
 
-#[test]
-fn small_messages_are_joined_and_split(rt: HostRuntime) -> Result<(), Fail> {
-    let alloc = rt.alloc();
+/// Two messages of 33 bytes, each with its padding.
+fn two(alloc: Global) -> Result<Vec<u8>, NoMemory> {
     let packet = message(alloc, 33)?;
-    // version 2, user 6, 10 words of header, 112 bytes in all; 2 inner packets
-    let mut expected = bytes_of(alloc, &[0x4d40_0070, 0, 0, 0, 0x0002_0000, 0, 0, 0, 0, 0])?;
+    let mut bytes = Vec::new(alloc);
+    add_words(&mut bytes, &TWO)?;
     for _ in 0..2 {
-        expected.extend_from_slice(packet.as_slice())?;
-        expected.extend_from_slice(&[0, 0, 0])?;
+        bytes.extend_from_slice(packet.as_slice())?;
+        bytes.extend_from_slice(&[0, 0, 0])?;
     }
-    let two = joined(&rt, alloc, message(alloc, 33)?, packet.as_slice(), 1);
-    assert_eq!(rt; two, Ok(Bytes::from_vec(expected)));
+    Ok(bytes)
+}
 
-    let Ok(many) = joined(&rt, alloc, message(alloc, 33)?, packet.as_slice(), 38) else {
-        panic!(rt; "39 messages of 33 bytes are no bundle");
-    };
-    assert_eq!(rt; many.len(), 1_444);
-    let full = joined(&rt, alloc, message(alloc, 33)?, packet.as_slice(), 39);
-    assert_eq!(rt; full, Err(BundleFault::Full));
-    let Ok(inner) = taken_apart(&rt, alloc, many.as_slice()) else {
+#[test]
+fn two_small_messages_are_joined(rt: HostRuntime) -> Result<(), Fail> {
+    let bundle = bundle_of(&rt, rt.alloc(), 2)?;
+    let expected = two(rt.alloc())?;
+    assert!(rt; bundle.as_slice() == expected.as_slice());
+    Ok(())
+}
+
+/// A bundle gives so many messages of 33 bytes.
+fn gives(rt: &impl Abort, alloc: Global, bundle: &[u8], count: usize) -> Result<(), Fail> {
+    let packet = message(alloc, 33)?;
+    let Ok(inner) = taken_apart(rt, alloc, bundle) else {
         panic!(rt; "the bundle isn't split");
     };
-    assert_eq!(rt; inner.len(), 39);
+    assert!(rt; inner.len() == count);
     for one in inner.as_slice() {
-        assert_eq!(rt; *one, packet);
+        assert!(rt; *one == packet);
     }
     Ok(())
 }
 
 #[test]
-fn a_bundle_has_at_most_1452_bytes(rt: HostRuntime) -> Result<(), Fail> {
-    let alloc = rt.alloc();
-    // the sizes of two messages, and that of their bundle
-    for (first, second, size) in [
-        (36, 36, Ok(112)),
-        (37, 36, Ok(116)),
-        (700, 712, Ok(1_452)),
-        (697, 709, Ok(1_452)),
-        (700, 713, Err(BundleFault::Full)),
-        (701, 712, Err(BundleFault::Full)),
-        (1_452, 33, Err(BundleFault::Full)),
-        (33, 66_032, Err(BundleFault::Full)),
-    ] {
-        let packet = message(alloc, second)?;
-        let both = joined(&rt, alloc, message(alloc, first)?, packet.as_slice(), 1);
-        assert_eq!(rt;
-            both.map(|bundle| bundle.len()),
-            size,
-            "{first} and {second}"
-        );
+fn small_messages_are_split(rt: HostRuntime) -> Result<(), Fail> {
+    let many = bundle_of(&rt, rt.alloc(), 39)?;
+    gives(&rt, rt.alloc(), many.as_slice(), 39)
+}
+
+/// The sizes of two messages, how often the second is added, and the size of their bundle.
+static SIZES: [(u32, u32, u32, Result<usize, BundleFault>); 10] = [
+    (36, 36, 1, Ok(112)),
+    (37, 36, 1, Ok(116)),
+    (700, 712, 1, Ok(1_452)),
+    (697, 709, 1, Ok(1_452)),
+    (33, 33, 38, Ok(1_444)),
+    (700, 713, 1, Err(BundleFault::Full)),
+    (701, 712, 1, Err(BundleFault::Full)),
+    (1_452, 33, 1, Err(BundleFault::Full)),
+    (33, 66_032, 1, Err(BundleFault::Full)),
+    (33, 33, 39, Err(BundleFault::Full)),
+];
+
+/// The size of the bundle of a message and of another one, which is added so often.
+fn size_of(
+    rt: &impl Abort,
+    alloc: Global,
+    first: u32,
+    second: u32,
+    times: u32,
+) -> Result<Result<usize, BundleFault>, NoMemory> {
+    let packet = message(alloc, second)?;
+    let first = message(alloc, first)?;
+    match joined(rt, alloc, first, packet.as_slice(), times) {
+        Ok(bundle) => Ok(Ok(bundle.len())),
+        Err(fault) => Ok(Err(fault)),
     }
+}
+
+#[test]
+fn a_bundle_has_at_most_1452_bytes(rt: HostRuntime) -> Result<(), Fail> {
+    for (first, second, times, size) in &SIZES {
+        let told = size_of(&rt, rt.alloc(), *first, *second, *times)?;
+        assert!(rt; told == *size);
+    }
+    Ok(())
+}
+
+/// A byte of the bundle of three, what is put there, and the place that is bad then.
+static BAD: [(usize, u8, u32); 9] = [
+    (73, 1, 73),
+    (75, 1, 75),
+    (109, 1, 109),
+    (147, 1, 147),
+    // the version of an inner packet, and its size
+    (40, 0x21, 40),
+    (112, 0x21, 112),
+    (79, 200, 76),
+    // the count: one fewer, and one more
+    (17, 2, 112),
+    (17, 4, 148),
+];
+
+/// The bundle with another byte in a place has a bad inner packet.
+fn is_bad(
+    rt: &impl Abort,
+    alloc: Global,
+    bundle: &[u8],
+    index: usize,
+    value: u8,
+    place: u32,
+) -> Result<(), Fail> {
+    let mut bytes = Vec::from_slice(alloc, bundle)?;
+    if let Some(byte) = bytes.get_mut(index) {
+        *byte = value;
+    }
+    let told = taken_apart(rt, alloc, bytes.as_slice());
+    assert!(rt; told == Err(SplitFault::BadInner { place }));
     Ok(())
 }
 
 #[test]
 fn the_first_bad_place(rt: HostRuntime) -> Result<(), Fail> {
-    let alloc = rt.alloc();
-    let packet = message(alloc, 33)?;
-    let Ok(three) = joined(&rt, alloc, message(alloc, 33)?, packet.as_slice(), 2) else {
-        panic!(rt; "three messages of 33 bytes are no bundle");
-    };
-    // a byte of the bundle of three, what is put there, and the place that is bad then
-    for (index, value, place) in [
-        (73, 1, 73),
-        (75, 1, 75),
-        (109, 1, 109),
-        (147, 1, 147),
-        // the version of an inner packet, and its size
-        (40, 0x21, 40),
-        (112, 0x21, 112),
-        (79, 200, 76),
-        // the count: one fewer, and one more
-        (17, 2, 112),
-        (17, 4, 148),
-    ] {
-        let mut bytes = Vec::from_slice(alloc, three.as_slice())?;
-        if let Some(byte) = bytes.get_mut(index) {
-            *byte = value;
-        }
-        assert_eq!(rt;
-            taken_apart(&rt, alloc, bytes.as_slice()),
-            Err(SplitFault::BadInner { place }),
-            "at {index}"
-        );
+    let three = bundle_of(&rt, rt.alloc(), 3)?;
+    for (index, value, place) in &BAD {
+        is_bad(&rt, rt.alloc(), three.as_slice(), *index, *value, *place)?;
     }
+    Ok(())
+}
+
+/// A bundle of a message of 36 bytes and a STATE.
+fn with_state(alloc: Global) -> Result<Vec<u8>, NoMemory> {
+    let mut bytes = Vec::new(alloc);
+    add_words(&mut bytes, &WITH_STATE)?;
+    bytes.extend_from_slice(message(alloc, 36)?.as_slice())?;
+    add_words(&mut bytes, &STATE)?;
+    Ok(bytes)
+}
+
+/// A packet is one, but may not be bundled.
+fn stands_alone(rt: &impl Abort, alloc: Global, words: &[u32]) -> Result<(), NoMemory> {
+    let mut bytes = Vec::new(alloc);
+    add_words(&mut bytes, words)?;
+    assert!(rt; decode(bytes.as_slice()).is_ok() && !may_be_bundled(bytes.as_slice()));
     Ok(())
 }
 
 #[test]
 fn a_state_stands_in_no_bundle(rt: HostRuntime) -> Result<(), Fail> {
-    let alloc = rt.alloc();
-    let mut bytes = bytes_of(alloc, &[0x4d40_0074, 0, 0, 0, 0x0002_0000, 0, 0, 0, 0, 0])?;
-    bytes.extend_from_slice(message(alloc, 36)?.as_slice())?;
-    let state = bytes_of(
-        alloc,
-        &[
-            0x4f50_0028,
-            0x1fff_0003,
-            0xfffe_0000,
-            0x0100_1001,
-            0x0007_0008,
-            0x0009_000a,
-            0,
-            0x0100_1002,
-            0x29,
-            0,
-        ],
-    )?;
-    bytes.extend_from_slice(state.as_slice())?;
-    assert!(rt; decode(state.as_slice()).is_ok() && !may_be_bundled(state.as_slice()));
-    assert_eq!(rt;
-        taken_apart(&rt, alloc, bytes.as_slice()),
-        Err(SplitFault::BadInner { place: 76 })
-    );
+    stands_alone(&rt, rt.alloc(), &STATE)?;
+    let bytes = with_state(rt.alloc())?;
+    let told = taken_apart(&rt, rt.alloc(), bytes.as_slice());
+    assert!(rt; told == Err(SplitFault::BadInner { place: 76 }));
     Ok(())
 }

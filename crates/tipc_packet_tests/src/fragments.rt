@@ -5,7 +5,7 @@ use std::process::Abort;
 use std::test::Fail;
 use tipc_fragments::*;
 use tipc_header::{Header, decode};
-use tipc_types::{Bytes, Pieces};
+use tipc_types::{Bytes, NoMemory, Pieces};
 
 /// The words of a direct message from port 1 of node 1.1.1 to port 1 of node 1.1.2, behind word 0.
 const DIRECT: [u32; 7] = [0x6000_0000, 0, 0, 1, 1, 0x0100_1001, 0x0100_1002];
@@ -52,76 +52,146 @@ fn add(joiner: &mut Joiner, packet: &Bytes, by: u64) -> Result<Result<Joined, Jo
     Ok(joiner.add(fragment.fragment_type, fragment.number, packet.rest, by))
 }
 
-/// The message is cut into so many fragments, the last with this word 0, and they are joined again.
+/// Words 0 and 1 of the fragment of this number, of so many: the last one has this word 0.
+fn words_of(number: u32, count: u32, last: u32) -> (u32, u32) {
+    if number == count {
+        return (last, 0x4000_0000);
+    }
+    if number == 1 {
+        return (0x5940_05ac, 0);
+    }
+    (0x5940_05ac, 0x2000_0000)
+}
+
+/// A packet begins as the fragment of this number does.
+fn begins(
+    rt: &impl Abort,
+    alloc: Global,
+    packet: &[u8],
+    number: u32,
+    words: (u32, u32),
+) -> Result<(), AllocError> {
+    let header = header(alloc, words.0, words.1, number)?;
+    assert!(rt; packet.starts_with(&header));
+    Ok(())
+}
+
+/// Packets begin as fragments do, of which the last one has this word 0.
+fn are_fragments(
+    rt: &impl Abort,
+    alloc: Global,
+    packets: &[Bytes],
+    count: u32,
+    last: u32,
+) -> Result<(), AllocError> {
+    let mut number = 0_u32;
+    for packet in packets {
+        number = number.saturating_add(1);
+        let words = words_of(number, count, last);
+        begins(rt, alloc, packet.as_slice(), number, words)?;
+    }
+    assert!(rt; number == count);
+    Ok(())
+}
+
+/// What comes of the packet of a fragment, by this arrival.
+fn adds(
+    rt: &impl Abort,
+    joiner: &mut Joiner,
+    packet: &Bytes,
+    by: u64,
+    answer: &Result<Joined, JoinFault>,
+) -> Result<(), Fail> {
+    let told = add(joiner, packet, by)?;
+    assert!(rt; told == *answer);
+    Ok(())
+}
+
+/// More is to come behind each of these packets, by the arrivals from 101 on. The arrival behind them is told.
+fn all_add(rt: &impl Abort, joiner: &mut Joiner, packets: &[Bytes]) -> Result<u64, Fail> {
+    let mut by = 101_u64;
+    for packet in packets {
+        adds(rt, joiner, packet, by, &Ok(Joined::More))?;
+        by = by.saturating_add(1);
+    }
+    Ok(by)
+}
+
+/// The message, by the arrivals from 101 up to this one.
+fn whole_by(alloc: Global, message: &[u8], last: u64) -> Result<Joined, NoMemory> {
+    let mut arrivals = Arrivals::new(alloc);
+    for by in 101..=last {
+        arrivals.push(by)?;
+    }
+    Ok(Joined::Whole {
+        message: Bytes::from_slice(alloc, message)?,
+        arrivals,
+    })
+}
+
+/// These packets are joined to the message.
+fn are_joined(
+    rt: &impl Abort,
+    alloc: Global,
+    packets: &[Bytes],
+    message: &[u8],
+) -> Result<(), Fail> {
+    let (last, others) = packets.split_last().ok_or("no fragments")?;
+    let mut joiner = Joiner::new(alloc);
+    let by = all_add(rt, &mut joiner, others)?;
+    adds(
+        rt,
+        &mut joiner,
+        last,
+        by,
+        &Ok(whole_by(alloc, message, by)?),
+    )
+}
+
+/// A message: its word 0, the others of its header, and the bytes of its user; how many fragments it is cut into, and word 0 of the last.
+static CUT: [(u32, &[u32], u32, u32, u32); 4] = [
+    (0x4100_05ad, &DIRECT, 1_421, 2, 0x5940_0051),
+    (0x4100_0b08, &DIRECT, 2_792, 2, 0x5940_05ac),
+    (0x4101_01f0, &DIRECT, 66_000, 47, 0x5940_0460),
+    (0x4169_01fc, &MULTICAST, 66_000, 47, 0x5940_046c),
+];
+
+/// The message is cut into so many fragments, and they are joined again.
 fn is_cut(
     rt: &impl Abort,
     alloc: Global,
-    whole: &[u8],
-    count: usize,
+    message: &[u8],
+    count: u32,
     last: u32,
 ) -> Result<(), Fail> {
-    let packets = fragments(alloc, whole)?;
-    assert_eq!(rt; packets.len(), count, "of {} bytes", whole.len());
-    let mut joiner = Joiner::new(alloc);
-    let mut arrivals = Arrivals::new(alloc);
-    let mut number = 0_u32;
-    for packet in packets.as_slice() {
-        number = number.saturating_add(1);
-        let is_last = number as usize == count;
-        let word_0 = if is_last { last } else { 0x5940_05ac };
-        let word_1 = match number {
-            1 => 0,
-            _ if is_last => 0x4000_0000,
-            _ => 0x2000_0000,
-        };
-        let header = header(alloc, word_0, word_1, number)?;
-        assert!(rt; packet.as_slice().starts_with(&header), "fragment {number}");
-        arrivals.push(u64::from(number) + 100)?;
-        let answer = add(&mut joiner, packet, u64::from(number) + 100)?;
-        if !is_last {
-            assert_eq!(rt; answer, Ok(Joined::More), "fragment {number}");
-            continue;
-        }
-        let message = Bytes::from_slice(alloc, whole)?;
-        let arrivals = arrivals.clone()?;
-        assert_eq!(rt; answer, Ok(Joined::Whole { message, arrivals }));
-    }
-    Ok(())
+    let packets = fragments(alloc, message)?;
+    are_fragments(rt, alloc, packets.as_slice(), count, last)?;
+    are_joined(rt, alloc, packets.as_slice(), message)
 }
 
 #[test]
 fn messages_are_cut_and_joined(rt: HostRuntime) -> Result<(), Fail> {
-    let alloc = rt.alloc();
-    // word 0 and the bytes of the user of a direct message; how many fragments, and word 0 of the last
-    let table = [
-        (0x4100_05ad, 1_421, 2, 0x5940_0051),
-        (0x4100_0b08, 2_792, 2, 0x5940_05ac),
-        (0x4101_01f0, 66_000, 47, 0x5940_0460),
-    ];
-    for (word_0, body, count, last) in table {
-        is_cut(
-            &rt,
-            alloc,
-            &message(alloc, word_0, &DIRECT, body)?,
-            count,
-            last,
-        )?;
+    for (word_0, others, body, count, last) in &CUT {
+        let message = message(rt.alloc(), *word_0, others, *body)?;
+        is_cut(&rt, rt.alloc(), message.as_slice(), *count, *last)?;
     }
-    let largest = message(alloc, 0x4169_01fc, &MULTICAST, 66_000)?;
-    is_cut(&rt, alloc, &largest, 47, 0x5940_046c)
+    Ok(())
+}
+
+/// The second fragment begins no message, and goes on with one behind the first, also at a copy.
+fn begins_with_the_first(rt: &impl Abort, alloc: Global, packets: &[Bytes]) -> Result<(), Fail> {
+    let [first, second, ..] = packets else {
+        return Err("too few fragments".into());
+    };
+    let mut joiner = Joiner::new(alloc);
+    adds(rt, &mut joiner, second, 1, &Err(JoinFault::NotInOrder))?;
+    adds(rt, &mut joiner, first, 2, &Ok(Joined::More))?;
+    adds(rt, &mut joiner.copy()?, second, 3, &Ok(Joined::More))
 }
 
 #[test]
 fn a_middle_fragment_begins_no_message(rt: HostRuntime) -> Result<(), Fail> {
-    let alloc = rt.alloc();
-    let packets = fragments(alloc, &message(alloc, 0x4101_01f0, &DIRECT, 66_000)?)?;
-    let [first, second, ..] = packets.as_slice() else {
-        return Err("too few fragments".into());
-    };
-    let mut joiner = Joiner::new(alloc);
-    assert_eq!(rt; add(&mut joiner, second, 1)?, Err(JoinFault::NotInOrder));
-    assert_eq!(rt; add(&mut joiner, first, 2)?, Ok(Joined::More));
-    let mut copy = joiner.copy()?;
-    assert_eq!(rt; add(&mut copy, second, 3)?, Ok(Joined::More));
-    Ok(())
+    let message = message(rt.alloc(), 0x4101_01f0, &DIRECT, 66_000)?;
+    let packets = fragments(rt.alloc(), message.as_slice())?;
+    begins_with_the_first(&rt, rt.alloc(), packets.as_slice())
 }

@@ -8,7 +8,7 @@ use std::process::Abort;
 use std::test::Fail;
 use tipc_header::{Discovery, DiscoveryType, Header, Packet, decode};
 use tipc_message::{message_from, packet_bytes};
-use tipc_types::{Addr, Body, Form, Importance, Item, ItemList, Message, PortId};
+use tipc_types::{Addr, Body, Form, Importance, Item, ItemList, Message, NoMemory, PortId};
 
 /// The port of this number at the node of this address word.
 fn port(word: u32, port: u32) -> PortId
@@ -31,6 +31,33 @@ fn offered() -> Item {
     }
 }
 
+/// These words, and the bytes behind them.
+fn bytes_of(alloc: Global, words: &[u32], rest: &[u8]) -> Result<Vec<u8>, NoMemory> {
+    let mut bytes = Vec::new(alloc);
+    for word in words {
+        bytes.extend_from_slice(&word.to_be_bytes())?;
+    }
+    bytes.extend_from_slice(rest)?;
+    Ok(bytes)
+}
+
+/// The message is read from these bytes.
+fn is_read(
+    rt: &impl Abort,
+    alloc: Global,
+    bytes: &[u8],
+    message: &Message,
+) -> Result<(), NoMemory> {
+    let Ok(packet) = decode(bytes) else {
+        panic!(rt; "the bytes are no packet");
+    };
+    let Some(read) = message_from(alloc, &packet)? else {
+        panic!(rt; "no message is read");
+    };
+    assert!(rt; read == *message);
+    Ok(())
+}
+
 /// The message's packet has these words, the body behind them, and the message is read from these bytes.
 fn is_spelled(
     rt: &impl Abort,
@@ -41,23 +68,10 @@ fn is_spelled(
 ) -> Result<(), Fail>
     requires { IsCarried message.now }
 {
-    let mut expected = Vec::new(alloc);
-    for word in words {
-        expected.extend_from_slice(&word.to_be_bytes())?;
-    }
-    expected.extend_from_slice(body)?;
-    let own = Addr { word: 0x0100_1001 };
-    let Ok(bytes) = packet_bytes(alloc, own, message) else {
-        panic!(rt; "no memory");
-    };
-    assert_eq!(rt; bytes.as_slice(), expected.as_slice());
-    let Ok(packet) = decode(&expected) else {
-        panic!(rt; "the bytes are no packet");
-    };
-    let Ok(Some(read)) = message_from(alloc, &packet) else {
-        panic!(rt; "no message is read");
-    };
-    assert_eq!(rt; read, *message);
+    let expected = bytes_of(alloc, words, body)?;
+    let bytes = packet_bytes(alloc, Addr { word: 0x0100_1001 }, message)?;
+    assert!(rt; bytes.as_slice() == expected.as_slice());
+    is_read(rt, alloc, expected.as_slice(), message)?;
     Ok(())
 }
 

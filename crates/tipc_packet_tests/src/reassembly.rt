@@ -1,6 +1,7 @@
 //! Tests of opening packets.
 
 use std::alloc::Global;
+use std::process::Abort;
 use std::test::Fail;
 use tipc_fragments::{Arrivals, LEAST_CUT, MOST_CUT, cut};
 use tipc_reassembly::*;
@@ -69,60 +70,111 @@ fn opened(alloc: Global, packet: Bytes) -> Result<OpenedList, NoMemory> {
     Reassembly::new(alloc).open(alloc, &one)
 }
 
-#[test]
-fn a_bundle_gives_the_packets_inside(rt: HostRuntime) -> Result<(), Fail> {
-    let alloc = rt.alloc();
-    let packet = message(alloc, 0x4100_0021, 1)?;
-    let mut expected = Vec::new(alloc);
-    for _ in 0..39 {
-        expected.push(Opened::Whole {
+/// As many times the packet of a bundle, given by arrival 1.
+fn given(alloc: Global, packet: &Bytes, times: u32) -> Result<OpenedList, NoMemory> {
+    let mut given = Vec::new(alloc);
+    for _ in 0..times {
+        given.push(Opened::Whole {
             packet: packet.clone()?,
             by: Arrivals::from_slice(alloc, &[1])?,
         })?;
     }
-    let answer = opened(alloc, bundle(alloc, &packet, 2_000, 0)?)?;
-    assert_eq!(rt; answer, OpenedList::from_vec(expected));
+    Ok(OpenedList::from_vec(given))
+}
+
+#[test]
+fn a_bundle_gives_the_packets_inside(rt: HostRuntime) -> Result<(), Fail> {
+    let packet = message(rt.alloc(), 0x4100_0021, 1)?;
+    let answer = opened(rt.alloc(), bundle(rt.alloc(), &packet, 2_000, 0)?)?;
+    assert!(rt; answer == given(rt.alloc(), &packet, 39)?);
+    Ok(())
+}
+
+/// The arrivals 1 to 47.
+fn arrivals(alloc: Global) -> Result<Arrivals, NoMemory> {
+    let mut by = Arrivals::new(alloc);
+    for number in 1..48 {
+        by.push(number)?;
+    }
+    Ok(by)
+}
+
+/// What comes of packets that are taken where none is begun.
+fn all_opened(alloc: Global, packets: Pieces) -> Result<OpenedList, NoMemory> {
+    let taken = all_taken(alloc, packets)?;
+    Reassembly::new(alloc).open(alloc, &taken)
+}
+
+/// A message by itself, by the arrivals 1 to 47.
+fn by_47(alloc: Global, message: Bytes) -> Result<OpenedList, NoMemory> {
+    let mut one = Vec::new(alloc);
+    one.push(Opened::Whole {
+        packet: message,
+        by: arrivals(alloc)?,
+    })?;
+    Ok(OpenedList::from_vec(one))
+}
+
+/// Packets give one message, by the arrivals 1 to 47.
+fn give_one(
+    rt: &impl Abort,
+    alloc: Global,
+    packets: Pieces,
+    message: Bytes,
+) -> Result<(), NoMemory> {
+    let expected = by_47(alloc, message)?;
+    let answer = all_opened(alloc, packets)?;
+    assert!(rt; answer == expected);
     Ok(())
 }
 
 #[test]
 fn fragments_give_their_message(rt: HostRuntime) -> Result<(), Fail> {
-    let alloc = rt.alloc();
-    let packet = message(alloc, 0x4101_01f0, 66_000)?;
-    let taken = all_taken(alloc, fragments(alloc, packet.as_slice())?)?;
-    let mut by = Arrivals::new(alloc);
-    for number in 1..48 {
-        by.push(number)?;
+    let message = message(rt.alloc(), 0x4101_01f0, 66_000)?;
+    let packets = fragments(rt.alloc(), message.as_slice())?;
+    give_one(&rt, rt.alloc(), packets, message)?;
+    Ok(())
+}
+
+/// A packet is passed over, for this place.
+fn is_passed(rt: &impl Abort, alloc: Global, packet: Bytes, place: u32) -> Result<(), NoMemory> {
+    let answer = opened(alloc, packet)?;
+    assert!(rt; answer.as_slice() == [Opened::Passed { place }].as_slice());
+    Ok(())
+}
+
+/// A byte of the bundle of 39 and what it is made, of padding or of the count, one fewer and one more; and the place that is bad then.
+static BAD: [(usize, u8, u32); 4] = [
+    (73, 1, 73),
+    (1_443, 1, 1_443),
+    (17, 38, 1_408),
+    (17, 40, 1_444),
+];
+
+#[test]
+fn bundles_are_passed_over(rt: HostRuntime) -> Result<(), Fail> {
+    let small = message(rt.alloc(), 0x4100_0021, 1)?;
+    for (index, value, place) in &BAD {
+        let packet = bundle(rt.alloc(), &small, *index, *value)?;
+        is_passed(&rt, rt.alloc(), packet, *place)?;
     }
-    let answer = Reassembly::new(alloc).open(alloc, &taken)?;
-    assert_eq!(rt;
-        answer.as_slice(),
-        [Opened::Whole { packet, by }].as_slice()
-    );
+    Ok(())
+}
+
+/// The second of these fragments is passed over.
+fn the_second_is_passed(rt: &impl Abort, alloc: Global, packets: &[Bytes]) -> Result<(), Fail> {
+    let [_, middle, ..] = packets else {
+        return Err("too few fragments".into());
+    };
+    is_passed(rt, alloc, middle.clone()?, 0)?;
     Ok(())
 }
 
 #[test]
-fn what_is_passed_over(rt: HostRuntime) -> Result<(), Fail> {
-    let alloc = rt.alloc();
-    let small = message(alloc, 0x4100_0021, 1)?;
-    let pieces = fragments(alloc, message(alloc, 0x4101_01f0, 66_000)?.as_slice())?;
-    let [_, middle, ..] = pieces.as_slice() else {
-        return Err("too few fragments".into());
-    };
-    // a packet, and the place that is told
-    let table = [
-        (middle.clone()?, 0),
-        // bytes of padding, and the count: one fewer, and one more
-        (bundle(alloc, &small, 73, 1)?, 73),
-        (bundle(alloc, &small, 1_443, 1)?, 1_443),
-        (bundle(alloc, &small, 17, 38)?, 1_408),
-        (bundle(alloc, &small, 17, 40)?, 1_444),
-        (Bytes::new(alloc), 0),
-    ];
-    for (packet, place) in table {
-        let answer = opened(alloc, packet)?;
-        assert_eq!(rt; answer.as_slice(), [Opened::Passed { place }].as_slice());
-    }
+fn what_is_no_beginning_is_passed_over(rt: HostRuntime) -> Result<(), Fail> {
+    let message = message(rt.alloc(), 0x4101_01f0, 66_000)?;
+    let packets = fragments(rt.alloc(), message.as_slice())?;
+    the_second_is_passed(&rt, rt.alloc(), packets.as_slice())?;
+    is_passed(&rt, rt.alloc(), Bytes::new(rt.alloc()), 0)?;
     Ok(())
 }

@@ -52,7 +52,7 @@ fn publishes<N: Names>(
     answer: Result<(), NameFault>,
 ) {
     let told = names.publish(publication(rt, key, bounds, at));
-    assert!(rt; told == answer, "key {key}");
+    assert!(rt; told == answer);
 }
 
 /// 1,024 ranges are published at a port of node 1, with the keys 0 to 1,023.
@@ -127,6 +127,16 @@ fn all_answer<N: Names>(
     Ok(())
 }
 
+/// These calls, one after another, answer as they should at a copy.
+fn all_answer_at<N: Names + Drop>(
+    rt: &impl Abort,
+    alloc: Global,
+    mut copy: N,
+    calls: &[Call],
+) -> Result<(), Fail> {
+    all_answer(rt, alloc, &mut copy, calls)
+}
+
 /// Calls at a new plain list, at a copy of it, and then at the list, answer as they should.
 fn go_on_in_a_list(
     rt: &impl Abort,
@@ -137,7 +147,7 @@ fn go_on_in_a_list(
 ) -> Result<(), Fail> {
     let mut names = NameTable::new(alloc);
     all_answer(rt, alloc, &mut names, first)?;
-    all_answer(rt, alloc, &mut names.copy()?, at_a_copy)?;
+    all_answer_at(rt, alloc, names.copy()?, at_a_copy)?;
     all_answer(rt, alloc, &mut names, then)
 }
 
@@ -151,7 +161,7 @@ fn go_on_in_an_index(
 ) -> Result<(), Fail> {
     let mut names = NameIndex::new(alloc);
     all_answer(rt, alloc, &mut names, first)?;
-    all_answer(rt, alloc, &mut names.copy()?, at_a_copy)?;
+    all_answer_at(rt, alloc, names.copy()?, at_a_copy)?;
     all_answer(rt, alloc, &mut names, then)
 }
 
@@ -250,7 +260,35 @@ impl Draws {
     }
 }
 
-/// Both forms find the same for an instance and for a range.
+/// Both forms find the same for an instance.
+fn match_alike(
+    rt: &impl Abort,
+    alloc: Global,
+    list: &NameTable,
+    index: &NameIndex,
+    instance: u32,
+) -> Result<(), Fail> {
+    let listed = list.matches(alloc, 100, instance)?;
+    let indexed = index.matches(alloc, 100, instance)?;
+    assert!(rt; listed.as_slice() == indexed.as_slice());
+    Ok(())
+}
+
+/// Both forms find the same for a range.
+fn overlap_alike(
+    rt: &impl Abort,
+    alloc: Global,
+    list: &NameTable,
+    index: &NameIndex,
+    bounds: (u32, u32),
+) -> Result<(), Fail> {
+    let listed = list.overlapping(alloc, range(rt, bounds))?;
+    let indexed = index.overlapping(alloc, range(rt, bounds))?;
+    assert!(rt; listed.as_slice() == indexed.as_slice());
+    Ok(())
+}
+
+/// Both forms find the same for a drawn instance and for a drawn range.
 fn find_alike(
     rt: &impl Abort,
     alloc: Global,
@@ -258,18 +296,27 @@ fn find_alike(
     index: &NameIndex,
     draws: &mut Draws,
 ) -> Result<(), Fail> {
-    let instance = draws.below(31);
-    let bounds = draws.bounds();
-    let listed = list.matches(alloc, 100, instance)?;
-    let indexed = index.matches(alloc, 100, instance)?;
-    assert!(rt;
-        listed.as_slice() == indexed.as_slice(),
-        "instance {instance}"
-    );
-    let listed = list.overlapping(alloc, range(rt, bounds))?;
-    let indexed = index.overlapping(alloc, range(rt, bounds))?;
-    assert!(rt; listed.as_slice() == indexed.as_slice());
-    Ok(())
+    match_alike(rt, alloc, list, index, draws.below(31))?;
+    overlap_alike(rt, alloc, list, index, draws.bounds())
+}
+
+/// Both forms withdraw alike.
+fn withdraw_alike(rt: &impl Abort, list: &mut NameTable, index: &mut NameIndex, n: u8, key: u32) {
+    let taken = list.withdraw(node(n), key);
+    assert!(rt; index.withdraw(node(n), key) == taken);
+}
+
+/// Both forms publish alike.
+fn publish_alike(
+    rt: &impl Abort,
+    list: &mut NameTable,
+    index: &mut NameIndex,
+    key: u32,
+    bounds: (u32, u32),
+    at: (u8, u32),
+) {
+    let told = list.publish(publication(rt, key, bounds, at));
+    assert!(rt; index.publish(publication(rt, key, bounds, at)) == told);
 }
 
 /// Both forms answer a drawn call alike: most publish, and few purge.
@@ -287,17 +334,24 @@ fn answer_alike(
             list.purge(node(at.0));
             index.purge(node(at.0));
         }
-        1..=15 => {
-            let taken = list.withdraw(node(at.0), key);
-            assert!(rt; index.withdraw(node(at.0), key) == taken, "key {key}");
-        }
+        1..=15 => withdraw_alike(rt, list, index, at.0, key),
         16..=31 => return find_alike(rt, alloc, list, index, draws),
-        _ => {
-            let bounds = draws.bounds();
-            let told = list.publish(publication(rt, key, bounds, at));
-            let again = index.publish(publication(rt, key, bounds, at));
-            assert!(rt; again == told, "key {key}");
-        }
+        _ => publish_alike(rt, list, index, key, draws.bounds(), at),
+    }
+    Ok(())
+}
+
+/// So do they 2,000 such calls, and hold the same behind each.
+fn all_alike(
+    rt: &impl Abort,
+    alloc: Global,
+    list: &mut NameTable,
+    index: &mut NameIndex,
+) -> Result<(), Fail> {
+    let mut draws = Draws { last: 1 };
+    for _ in 0..2_000 {
+        answer_alike(rt, alloc, list, index, &mut draws)?;
+        assert!(rt; list.as_slice() == index.as_slice());
     }
     Ok(())
 }
@@ -306,10 +360,5 @@ fn answer_alike(
 fn both_forms_answer_2000_calls_alike(rt: HostRuntime) -> Result<(), Fail> {
     let mut list = NameTable::new(rt.alloc());
     let mut index = NameIndex::new(rt.alloc());
-    let mut draws = Draws { last: 1 };
-    for call in 0..2_000 {
-        answer_alike(&rt, rt.alloc(), &mut list, &mut index, &mut draws)?;
-        assert!(&rt; list.as_slice() == index.as_slice(), "call {call}");
-    }
-    Ok(())
+    all_alike(&rt, rt.alloc(), &mut list, &mut index)
 }

@@ -134,7 +134,7 @@ fn waits_at(rt: &impl Abort, fate: &Fate, ports: &[u32]) {
     assert!(rt; queued.as_slice() == ports);
 }
 
-/// A multicast that arrived waits at these ports, as was told before; and so it does at a copy, where it has its fate at once.
+/// A multicast that arrived waits at these ports, as was told before.
 fn spreads(
     rt: &impl Abort,
     alloc: Global,
@@ -142,12 +142,22 @@ fn spreads(
     ports: &[u32],
 ) -> Result<(), Fail> {
     let m = multicast(alloc)?;
-    let mut copy = sockets.copy()?;
     let told = sockets.spreading(alloc, &m, true)?;
     assert!(rt; told.ports() == ports);
     let fate = sockets.spread(told);
     waits_at(rt, &fate, ports);
-    let fate = fate_of(alloc, &mut copy, m)?;
+    Ok(())
+}
+
+/// It waits there at a copy, too, where it has its fate at once.
+fn spreads_at_a_copy(
+    rt: &impl Abort,
+    alloc: Global,
+    sockets: &Sockets,
+    ports: &[u32],
+) -> Result<(), Fail> {
+    let mut copy = sockets.copy()?;
+    let fate = fate_of(alloc, &mut copy, multicast(alloc)?)?;
     waits_at(rt, &fate, ports);
     Ok(())
 }
@@ -172,24 +182,39 @@ fn changes(rt: &impl Abort, alloc: Global, sockets: &mut Sockets, call: &Call) {
     }
 }
 
-/// What a call finds has this size.
-fn counts(rt: &impl Abort, alloc: Global, sockets: &Sockets, call: &Call) -> Result<(), Fail> {
-    let (counted, count) = match call {
-        Call::Finds(instance, count) => (found(alloc, sockets, *instance), *count),
-        Call::Matches(instance, count) => (matched(alloc, sockets, *instance), *count),
-        Call::Overlaps(bounds, count) => (overlapped(rt, alloc, sockets, *bounds), *count),
-        Call::Lives(port, count) => (lived(alloc, sockets, *port), *count),
-        _ => (Ok(0), 0),
-    };
-    assert!(rt; counted? == count);
-    Ok(())
+/// How many publications a call finds.
+fn count_of(
+    rt: &impl Abort,
+    alloc: Global,
+    sockets: &Sockets,
+    call: &Call,
+) -> Result<usize, NoMemory> {
+    match call {
+        Call::Finds(instance, _) => found(alloc, sockets, *instance),
+        Call::Matches(instance, _) => matched(alloc, sockets, *instance),
+        Call::Overlaps(bounds, _) => overlapped(rt, alloc, sockets, *bounds),
+        Call::Lives(port, _) => lived(alloc, sockets, *port),
+        _ => Ok(0),
+    }
+}
+
+/// How many it should find.
+fn wanted(call: &Call) -> usize {
+    match call {
+        Call::Finds(_, count)
+        | Call::Matches(_, count)
+        | Call::Overlaps(_, count)
+        | Call::Lives(_, count) => *count,
+        _ => 0,
+    }
 }
 
 /// One call answers as it should.
 fn answers(rt: &impl Abort, alloc: Global, sockets: &mut Sockets, call: &Call) -> Result<(), Fail> {
     changes(rt, alloc, sockets, call);
-    counts(rt, alloc, sockets, call)?;
+    assert!(rt; count_of(rt, alloc, sockets, call)? == wanted(call));
     if let Call::Spread(ports) = call {
+        spreads_at_a_copy(rt, alloc, sockets, ports)?;
         spreads(rt, alloc, sockets, ports)?;
     }
     Ok(())

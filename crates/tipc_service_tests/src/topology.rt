@@ -79,7 +79,7 @@ fn is_as_told(rt: &impl Abort, event: &Event, told: &Told) {
 /// The next event of a subscription is as told.
 fn tells(rt: &impl Abort, topology: &mut Topology, number: u32, told: &Told) {
     let Ok(Some(event)) = topology.next_event(number) else {
-        panic!(rt; "subscription {number} has no event");
+        panic!(rt; "there is no event");
     };
     is_as_told(rt, &event, told);
 }

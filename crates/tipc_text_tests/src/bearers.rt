@@ -1,16 +1,17 @@
 //! Tests of bearers over memory, on one thread and on two.
 
-ghost use Rattle.std.specs.Prelude.{IsTrue};
+ghost use Rattle.std.specs.Prelude.{◌≤◌, IsTrue};
 ghost use Rattle.tipc_outside.specs.Causes.{Rose};
 
 use std::alloc::Global;
 use std::process::Abort;
+use std::sync::Wait;
 use std::test::Fail;
 use std::thread;
 use tipc_outside::{Bearer, BearerFault, Heard, Medium, MemoryBearer};
 use tipc_types::{Addr, To};
 
-/// Asserts what the next look at a bearer answers, and what then stands where a frame comes.
+/// The next look at a bearer is answered so, and this stands then where a frame comes.
 fn hears<B: Bearer>(
     rt: &impl Abort,
     alloc: Global,
@@ -19,33 +20,61 @@ fn hears<B: Bearer>(
     bytes: &[u8],
 ) -> Result<(), Fail> {
     let mut into = b"before".to_vec(alloc)?;
-    assert_eq!(rt; bearer.receive(&mut into), answer);
-    assert_eq!(rt; into.as_slice(), bytes);
+    assert!(rt; bearer.receive(&mut into) == answer);
+    assert!(rt; into.as_slice() == bytes);
     Ok(())
+}
+
+/// A bearer hears these frames, and nothing behind them.
+fn hears_all<B: Bearer>(
+    rt: &impl Abort,
+    alloc: Global,
+    bearer: &mut B,
+    frames: &[&[u8]],
+) -> Result<(), Fail> {
+    for frame in frames {
+        hears(rt, alloc, bearer, Ok(Heard::Frame), frame)?;
+    }
+    hears(rt, alloc, bearer, Ok(Heard::Nothing), b"before")
+}
+
+/// A frame is sent.
+fn sends<B: Bearer>(rt: &impl Abort, bearer: &mut B, to: To, frame: &[u8]) {
+    assert!(rt; bearer.send(to, frame) == Ok(()));
+}
+
+/// Node 1 sends a frame to node 2 on bearer 0, one to all, and one to an address that no node has, and hears none of them.
+fn node_1_sends<R: Wait + Abort>(rt: &R, alloc: Global, medium: &Medium) -> Result<(), Fail> {
+    let mut first = MemoryBearer::new(rt, alloc, medium, Addr::node(1), 0, Vec::new(alloc));
+    sends(rt, &mut first, To::Node(Addr::node(2)), b"for node 2");
+    sends(rt, &mut first, To::All, b"for all");
+    sends(rt, &mut first, To::Node(Addr { word: 2 }), b"for nobody");
+    hears_all(rt, alloc, &mut first, &[])
+}
+
+/// A node hears these frames on a bearer.
+fn node_hears<R: Wait + Abort>(
+    rt: &R,
+    alloc: Global,
+    medium: &Medium,
+    node: u8,
+    bearer: u8,
+    frames: &[&[u8]],
+) -> Result<(), Fail>
+    requires node { (1 ≤ node) × (node ≤ 32) }
+    requires bearer { bearer ≤ 1 }
+{
+    let mut other = MemoryBearer::new(rt, alloc, medium, Addr::node(node), bearer, Vec::new(alloc));
+    hears_all(rt, alloc, &mut other, frames)
 }
 
 #[test]
 fn frames_to_one_node_and_to_all_arrive_whole(rt: HostRuntime) -> Result<(), Fail> {
-    let alloc = rt.alloc();
-    let medium = Medium::new(alloc)?;
-    let none = || Vec::new(alloc);
-    let mut first = MemoryBearer::new(&rt, alloc, &medium, Addr::node(1), 0, none());
-    let mut second = MemoryBearer::new(&rt, alloc, &medium, Addr::node(2), 0, none());
-    let mut last = MemoryBearer::new(&rt, alloc, &medium, Addr::node(32), 0, none());
-    let mut other = MemoryBearer::new(&rt, alloc, &medium, Addr::node(2), 1, none());
-    assert_eq!(rt; first.send(To::Node(Addr::node(2)), b"for node 2"), Ok(()));
-    assert_eq!(rt; first.send(To::All, b"for all"), Ok(()));
-    assert_eq!(rt;
-        first.send(To::Node(Addr { word: 2 }), b"for nobody"),
-        Ok(())
-    );
-    hears(&rt, alloc, &mut second, Ok(Heard::Frame), b"for node 2")?;
-    hears(&rt, alloc, &mut second, Ok(Heard::Frame), b"for all")?;
-    hears(&rt, alloc, &mut second, Ok(Heard::Nothing), b"before")?;
-    hears(&rt, alloc, &mut last, Ok(Heard::Frame), b"for all")?;
-    hears(&rt, alloc, &mut last, Ok(Heard::Nothing), b"before")?;
-    hears(&rt, alloc, &mut first, Ok(Heard::Nothing), b"before")?;
-    hears(&rt, alloc, &mut other, Ok(Heard::Nothing), b"before")
+    let medium = Medium::new(rt.alloc())?;
+    node_1_sends(&rt, rt.alloc(), &medium)?;
+    node_hears(&rt, rt.alloc(), &medium, 2, 0, &[b"for node 2", b"for all"])?;
+    node_hears(&rt, rt.alloc(), &medium, 32, 0, &[b"for all"])?;
+    node_hears(&rt, rt.alloc(), &medium, 2, 1, &[])
 }
 
 /// Whether a bearer fails to send a frame to all; its count of faults rises then.
@@ -55,20 +84,27 @@ fn fails<B: Bearer>(bearer: &mut B, frame: &[u8]) -> bool
     bearer.send(To::All, frame) == Err(BearerFault::Failed)
 }
 
+/// The first and the third call of a bearer fail, of which the third is a look.
+fn fails_at_its_calls<B: Bearer>(
+    rt: &impl Abort,
+    alloc: Global,
+    sender: &mut B,
+) -> Result<(), Fail> {
+    assert!(rt; fails(sender, b"first"));
+    assert!(rt; !fails(sender, b"second"));
+    hears(rt, alloc, sender, Err(BearerFault::Failed), b"before")?;
+    assert!(rt; !fails(sender, b"fourth"));
+    Ok(())
+}
+
 #[test]
 fn a_bearer_fails_at_its_calls(rt: HostRuntime) -> Result<(), Fail> {
     let alloc = rt.alloc();
     let medium = Medium::new(alloc)?;
     let failing = [1, 3].to_vec(alloc)?;
     let mut sender = MemoryBearer::new(&rt, alloc, &medium, Addr::node(3), 1, failing);
-    let mut hearer = MemoryBearer::new(&rt, alloc, &medium, Addr::node(4), 1, Vec::new(alloc));
-    assert!(rt; fails(&mut sender, b"first"));
-    assert!(rt; !fails(&mut sender, b"second"));
-    hears(&rt, alloc, &mut sender, Err(BearerFault::Failed), b"before")?;
-    assert!(rt; !fails(&mut sender, b"fourth"));
-    hears(&rt, alloc, &mut hearer, Ok(Heard::Frame), b"second")?;
-    hears(&rt, alloc, &mut hearer, Ok(Heard::Frame), b"fourth")?;
-    hears(&rt, alloc, &mut hearer, Ok(Heard::Nothing), b"before")
+    fails_at_its_calls(&rt, alloc, &mut sender)?;
+    node_hears(&rt, alloc, &medium, 4, 1, &[b"second", b"fourth"])
 }
 
 /// How many frames each of two threads sends to the other.

@@ -1,11 +1,13 @@
 //! Tests of generated load.
 
+use std::alloc::Global;
+use std::process::Abort;
 use std::test::Fail;
 use tipc_load::generate;
 
 /// Numbers, how many bytes their scripts have, and what these come to by `weighed`. (Worked out by a program in another language, by the
 /// formula of docs/FORMATS.md.)
-const LOADS: [(u64, usize, u64); 4] = [
+static LOADS: [(u64, usize, u64); 4] = [
     (1, 22_647, 12_129_852_419_755_643_278),
     (2, 22_127, 4_719_170_383_104_913_645),
     (3, 22_692, 3_506_883_694_751_989_585),
@@ -21,12 +23,19 @@ fn weighed(bytes: &[u8]) -> u64 {
     sum
 }
 
+/// A number stands for a script of so many bytes, which come to this sum.
+fn stands_for(rt: &impl Abort, alloc: Global, load: &(u64, usize, u64)) -> Result<(), Fail> {
+    let (seed, length, sum) = *load;
+    let script = generate(alloc, seed)?;
+    assert!(rt; script.len() == length);
+    assert!(rt; weighed(script.as_slice()) == sum);
+    Ok(())
+}
+
 #[test]
 fn numbers_stand_for_scripts(rt: HostRuntime) -> Result<(), Fail> {
-    for (seed, length, sum) in LOADS {
-        let script = generate(rt.alloc(), seed)?;
-        assert_eq!(rt; script.len(), length, "of {seed}");
-        assert_eq!(rt; weighed(script.as_slice()), sum, "of {seed}");
+    for load in &LOADS {
+        stands_for(&rt, rt.alloc(), load)?;
     }
     Ok(())
 }

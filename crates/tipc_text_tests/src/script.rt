@@ -1,31 +1,12 @@
-//! Tests of lines that are read and lines that are refused.
+//! Tests of lines that are read. (Those that are refused stand in rows/bad_lines.table.)
 
 ghost use Rattle.std.specs.Prelude.{◌≤◌};
 
 use std::alloc::Global;
 use std::process::Abort;
 use std::test::Fail;
-use tipc_script::{Command, Destination, Filter, Line, LineFault, LineWhy, NodeToken, parse_line};
-use tipc_types::{Addr, Body, Importance, PortId, Scope};
-
-/// A line that is refused for each reason, with its place. (More stand in rows/bad_lines.table.)
-const BAD_LINES: [(&[u8], u32, LineWhy); 11] = [
-    (b"nod 1", 1, LineWhy::Command),
-    (b"node 33", 6, LineWhy::Number),
-    (b"send 1 1 port 2 1 LOW =a", 19, LineWhy::Word),
-    (b"send 1 1 port 2 1 low *70001", 23, LineWhy::Body),
-    (b"mend 1", 7, LineWhy::End),
-    (b"send 1 1 name 100 5 low", 24, LineWhy::End),
-    (b"publish 1 1 100 0 9 world 1", 21, LineWhy::Word),
-    (b"send 1 1 casts 200 6 7 low =m", 10, LineWhy::Word),
-    (
-        b"send 1 1 cast 200 6 4294967296 low =m",
-        21,
-        LineWhy::Number,
-    ),
-    (b"send 1 1 cast 200 6 low =m", 21, LineWhy::Number),
-    (b"repeat 2 send 1 1 cast 200 6 7 low", 35, LineWhy::End),
-];
+use tipc_script::{Command, Line, LineFault, NodeToken, parse_line};
+use tipc_types::{Addr, Body, EventNote, Importance, PortId, Scope, ServiceRange, Subscription};
 
 /// What is read of a short line.
 fn read(rt: &impl Abort, alloc: Global, line: &[u8]) -> Result<Command, LineFault> {
@@ -33,16 +14,17 @@ fn read(rt: &impl Abort, alloc: Global, line: &[u8]) -> Result<Command, LineFaul
     parse_line(alloc, line)
 }
 
-#[test]
-fn bad_lines_are_refused_at_their_place(rt: HostRuntime) -> Result<(), Fail> {
-    for (line, place, why) in BAD_LINES {
-        let fault = read(&rt, rt.alloc(), line).err();
-        assert_eq!(rt;
-            fault,
-            Some(LineFault::BadLine { place, why }),
-            "in {line:?}"
-        );
-    }
+/// A text is read as this line, which asks something of these nodes.
+fn reads(
+    rt: &impl Abort,
+    alloc: Global,
+    text: &[u8],
+    line: &Line,
+    nodes: &[NodeToken],
+) -> Result<(), Fail> {
+    let command = read(rt, alloc, text).ok().ok_or("refused")?;
+    assert!(rt; command.line == *line);
+    assert!(rt; command.nodes.as_slice() == nodes);
     Ok(())
 }
 
@@ -54,10 +36,7 @@ fn is_read_as(
     line: Line,
     nodes: &[NodeToken],
 ) -> Result<(), Fail> {
-    let command = read(rt, alloc, text).ok().ok_or("refused")?;
-    assert_eq!(rt; command.line, line, "in {text:?}");
-    assert_eq!(rt; command.nodes.as_slice(), nodes, "in {text:?}");
-    Ok(())
+    reads(rt, alloc, text, &line, nodes)
 }
 
 /// A token that names a node which has to be there.
@@ -67,6 +46,11 @@ fn old_node(place: u32, node: u8) -> NodeToken {
         node,
         there: true,
     }
+}
+
+/// A call of a node.
+fn call(node: u8, call: EventNote) -> Line {
+    Line::Call { node, call }
 }
 
 #[test]
@@ -86,7 +70,7 @@ fn lines_of_nodes_are_read(rt: HostRuntime) -> Result<(), Fail> {
     };
     let node = Line::Node { node: 32 };
     is_read_as(&rt, rt.alloc(), b"node 32", node, &[new])?;
-    let tick = Line::Tick { node: 7 };
+    let tick = call(7, EventNote::Tick);
     is_read_as(&rt, rt.alloc(), b"tick 7", tick, &[old_node(6, 7)])?;
     let restart = Line::Restart { node: 10 };
     is_read_as(&rt, rt.alloc(), b"restart 10", restart, &[old_node(9, 10)])?;
@@ -98,30 +82,38 @@ fn lines_of_nodes_are_read(rt: HostRuntime) -> Result<(), Fail> {
 
 #[test]
 fn lines_of_subscriptions_are_read(rt: HostRuntime) -> Result<(), Fail> {
-    let subscribe = Line::Subscribe {
-        node: 3,
-        kind: 100,
-        lower: 20,
-        upper: 10,
+    let subscription = Subscription {
+        range_kind: 100,
+        lower: 10,
+        upper: 20,
         timeout: 4_294_967_295,
-        filter: Filter::Service,
+        filter: 2,
+        handle: [0; 8],
     };
-    let text = b"subscribe 3 100 20 10 4294967295 service";
+    let subscribe = call(3, EventNote::Subscribe { subscription });
+    let text = b"subscribe 3 100 10 20 4294967295 service";
     is_read_as(&rt, rt.alloc(), text, subscribe, &[old_node(11, 3)])?;
-    let event = Line::Event { node: 3, number: 1 };
+    let event = call(3, EventNote::NextEvent { number: 1 });
     is_read_as(&rt, rt.alloc(), b"event 3 1", event, &[old_node(7, 3)])?;
-    let cancel = Line::Cancel { node: 3, number: 1 };
+    let cancel = call(3, EventNote::Cancel { number: 1 });
     is_read_as(&rt, rt.alloc(), b"cancel 3 1", cancel, &[old_node(8, 3)])
 }
 
 #[test]
+fn ranges_without_instances_are_told(rt: HostRuntime) -> Result<(), Fail> {
+    let text = b"subscribe 3 100 20 10 0 ports";
+    let bad = Line::BadRange { node: 3 };
+    is_read_as(&rt, rt.alloc(), text, bad, &[old_node(11, 3)])?;
+    let text = b"publish 2 7 100 9 0 zone 3";
+    let bad = Line::BadRange { node: 2 };
+    is_read_as(&rt, rt.alloc(), text, bad, &[old_node(9, 2)])
+}
+
+#[test]
 fn lines_of_links_are_read(rt: HostRuntime) -> Result<(), Fail> {
-    let mend = Line::Mend {
-        node: 32,
-        bearer: 0,
-    };
+    let mend = call(32, EventNote::Mend { bearer: 0 });
     is_read_as(&rt, rt.alloc(), b"mend 32 0", mend, &[old_node(6, 32)])?;
-    let cut = Line::Cut { node: 1, bearer: 0 };
+    let cut = call(1, EventNote::Cut { bearer: 0 });
     is_read_as(&rt, rt.alloc(), b"cut 1 0", cut, &[old_node(5, 1)])?;
     let link = Line::Link {
         first: 10,
@@ -181,113 +173,106 @@ fn lines_of_many_messages_are_read(rt: HostRuntime) -> Result<(), Fail> {
     is_read_as(&rt, rt.alloc(), text, burst, nodes.as_slice())
 }
 
-/// The port of that node and number, as a destination.
-fn port_of(node: u8, port: u32) -> Destination
-    requires { (1 ≤ node) × (node ≤ 32) }
-{
-    Destination::Port(PortId {
-        node: Addr::node(node),
-        port,
+/// A message from port 7 to port 9 of node 2.
+fn to_port(alloc: Global) -> Result<EventNote, Fail> {
+    Ok(EventNote::SendPort {
+        port: 7,
+        to: PortId {
+            node: Addr::node(2),
+            port: 9,
+        },
+        importance: Importance::High,
+        body: Body::from_slice(alloc, b"a")?,
+    })
+}
+
+/// A message from port 7 to the highest instance of service type 0.
+fn by_name(alloc: Global) -> Result<EventNote, Fail> {
+    Ok(EventNote::SendName {
+        port: 7,
+        kind: 0,
+        instance: u32::MAX,
+        importance: Importance::Low,
+        body: Body::from_slice(alloc, b"hello")?,
+    })
+}
+
+/// A message from port 7 to a range without instances.
+fn to_all(alloc: Global) -> Result<EventNote, Fail> {
+    Ok(EventNote::Multicast {
+        port: 7,
+        kind: 100,
+        lower: 6,
+        upper: 5,
+        importance: Importance::Medium,
+        body: Body::from_slice(alloc, b"a")?,
     })
 }
 
 #[test]
-fn sends_that_are_repeated_are_read(rt: HostRuntime) -> Result<(), Fail> {
-    let name = Destination::Name {
-        kind: 100,
-        instance: 5,
-    };
-    let cast = Destination::Cast {
-        kind: 100,
-        lower: 6,
-        upper: 5,
-    };
-    let rows = [
-        (
-            b"repeat 2 send 1 7 port 2 9 high =a".as_slice(),
-            port_of(2, 9),
-        ),
-        (b"repeat 2 send 1 7 name 100 5 high =a", name),
-        (b"repeat 2 send 1 7 cast 100 6 5 high =a", cast),
-    ];
-    for (text, to) in rows {
-        let repeat = Line::Repeat {
-            times: 2,
-            node: 1,
-            port: 7,
-            to,
-            importance: Importance::High,
-            body: Body::from_slice(rt.alloc(), b"a")?,
-        };
-        is_read_as(&rt, rt.alloc(), text, repeat, &[old_node(15, 1)])?;
+fn sends_are_read_with_their_bodies(rt: HostRuntime) -> Result<(), Fail> {
+    let nodes = [old_node(6, 1)];
+    let send = call(1, to_port(rt.alloc())?);
+    let text = b"send 1 7 port 2 9 high =a";
+    is_read_as(&rt, rt.alloc(), text, send, nodes.as_slice())?;
+    let send = call(1, by_name(rt.alloc())?);
+    let text = b"send 1 7 name 0 4294967295 low =hello";
+    is_read_as(&rt, rt.alloc(), text, send, nodes.as_slice())?;
+    let send = call(1, to_all(rt.alloc())?);
+    let text = b"send 1 7 cast 100 6 5 medium =a";
+    is_read_as(&rt, rt.alloc(), text, send, nodes.as_slice())
+}
+
+/// A message that node 1 sends up to two times.
+fn twice(call: EventNote) -> Line {
+    Line::Repeat {
+        times: 2,
+        node: 1,
+        call,
     }
-    Ok(())
 }
 
 #[test]
-fn sends_are_read_with_their_bodies(rt: HostRuntime) -> Result<(), Fail> {
-    let name = Destination::Name {
-        kind: 0,
-        instance: u32::MAX,
-    };
-    let cast = Destination::Cast {
-        kind: 0,
-        lower: 7,
-        upper: u32::MAX,
-    };
-    let rows = [
-        (
-            b"send 1 4294967295 port 2 0 low =hello".as_slice(),
-            port_of(2, 0),
-        ),
-        (b"send 1 4294967295 port 1 0 low =hello", port_of(1, 0)),
-        (b"send 1 4294967295 name 0 4294967295 low =hello", name),
-        (b"send 1 4294967295 cast 0 7 4294967295 low =hello", cast),
-    ];
-    for (text, to) in rows {
-        let send = Line::Send {
-            node: 1,
-            port: u32::MAX,
-            to,
-            importance: Importance::Low,
-            body: Body::from_slice(rt.alloc(), b"hello")?,
-        };
-        is_read_as(&rt, rt.alloc(), text, send, &[old_node(6, 1)])?;
-    }
-    Ok(())
+fn sends_that_are_repeated_are_read(rt: HostRuntime) -> Result<(), Fail> {
+    let nodes = [old_node(15, 1)];
+    let repeat = twice(to_port(rt.alloc())?);
+    let text = b"repeat 2 send 1 7 port 2 9 high =a";
+    is_read_as(&rt, rt.alloc(), text, repeat, nodes.as_slice())?;
+    let repeat = twice(by_name(rt.alloc())?);
+    let text = b"repeat 2 send 1 7 name 0 4294967295 low =hello";
+    is_read_as(&rt, rt.alloc(), text, repeat, nodes.as_slice())?;
+    let repeat = twice(to_all(rt.alloc())?);
+    let text = b"repeat 2 send 1 7 cast 100 6 5 medium =a";
+    is_read_as(&rt, rt.alloc(), text, repeat, nodes.as_slice())
 }
 
 #[test]
 fn lines_of_services_are_read(rt: HostRuntime) -> Result<(), Fail> {
-    let close = Line::Close { node: 2, port: 1 };
+    let close = call(2, EventNote::Close { port: 1 });
     is_read_as(&rt, rt.alloc(), b"close 2 1", close, &[old_node(7, 2)])?;
+    let range = ServiceRange::new(100, 0, 9).ok().ok_or("no range")?;
     let rows = [
-        (b"publish 1 7 100 9 0 zone 3".as_slice(), Scope::Zone),
-        (b"publish 1 7 100 9 0 cluster 3", Scope::Cluster),
-        (b"publish 1 7 100 9 0 node 3", Scope::Node),
+        (b"publish 1 7 100 0 9 zone 3".as_slice(), Scope::Zone),
+        (b"publish 1 7 100 0 9 cluster 3", Scope::Cluster),
+        (b"publish 1 7 100 0 9 node 3", Scope::Node),
     ];
     for (text, scope) in rows {
-        let publish = Line::Publish {
-            node: 1,
+        let note = EventNote::Publish {
             port: 7,
-            kind: 100,
-            lower: 9,
-            upper: 0,
+            range,
             scope,
             key: 3,
         };
+        let publish = call(1, note);
         is_read_as(&rt, rt.alloc(), text, publish, &[old_node(9, 1)])?;
     }
-    let withdraw = Line::Withdraw {
-        node: 1,
-        port: 7,
-        key: 3,
-    };
+    let withdraw = call(1, EventNote::Withdraw { port: 7, key: 3 });
+    let nodes = [old_node(10, 1)];
     is_read_as(
         &rt,
         rt.alloc(),
         b"withdraw 1 7 3",
         withdraw,
-        &[old_node(10, 1)],
+        nodes.as_slice(),
     )
 }

@@ -17,12 +17,15 @@ const HELD: u32 = 128;
 const RELAYED: u32 = 10_000;
 
 /// A message of this number, which its instance is, and its body.
-fn numbered(alloc: Global, number: u32) -> Result<Message, NoMemory> {
+fn numbered(rt: &impl Abort, alloc: Global, number: u32) -> Message {
+    let Ok(body) = Body::from_slice(alloc, &number.to_be_bytes()) else {
+        panic!(rt; "no memory")
+    };
     let port = PortId {
         node: Addr::node(1),
         port: 1,
     };
-    Ok(Message::Payload {
+    Message::Payload {
         importance: Importance::Low,
         form: Form::Named,
         from: port,
@@ -32,8 +35,8 @@ fn numbered(alloc: Global, number: u32) -> Result<Message, NoMemory> {
         upper: number,
         code: 0,
         droppable: false,
-        body: Body::from_slice(alloc, &number.to_be_bytes())?,
-    })
+        body,
+    }
 }
 
 /// Whether it is the message of this number.
@@ -107,20 +110,20 @@ fn take_next<R: Wait>(rt: &R, inbox: &Inbox, taker: &mut Taker) -> Message
 }
 
 /// Gives the messages of the first numbers, one after another.
-fn give<R: Wait>(
+fn give<R: Wait + Abort>(
     rt: &R,
     alloc: Global,
     inbox: &Inbox,
     mut giver: Giver,
     count: u32,
-) -> Result<Giver, NoMemory>
+) -> Giver
     requires { giver.of_inbox ≡ inbox.now }
-    ensures { IfOk result (λ giver. giver.of_inbox ≡ inbox.now) }
+    ensures { result.of_inbox ≡ inbox.now }
 {
     for number in 0..count {
-        offer_until_it_stays(rt, inbox, &mut giver, numbered(alloc, number)?);
+        offer_until_it_stays(rt, inbox, &mut giver, numbered(rt, alloc, number));
     }
-    Ok(giver)
+    giver
 }
 
 /// Takes as many messages, and answers whether each was the next in order.
@@ -135,19 +138,49 @@ fn receive<R: Wait>(rt: &R, inbox: &Inbox, mut taker: Taker, count: u32) -> (Tak
     (taker, in_order)
 }
 
+/// An inbox that is full gives the next message back.
+fn is_full<R: Wait + Abort>(
+    rt: &R,
+    alloc: Global,
+    inbox: &Inbox,
+    giver: &mut Giver,
+    taker: &mut Taker,
+)
+    requires giver { giver.old.of_inbox ≡ inbox.now }
+    requires taker { taker.old.of_inbox ≡ inbox.now }
+    ensures giver { giver.new.of_inbox ≡ inbox.now }
+    ensures taker { taker.new.of_inbox ≡ inbox.now }
+{
+    offers(rt, inbox, giver, numbered(rt, alloc, HELD), Some(HELD));
+    inbox.compare(giver, taker);
+}
+
+/// An inbox that is empty has nothing, and takes the next message.
+fn is_empty<R: Wait + Abort>(
+    rt: &R,
+    alloc: Global,
+    inbox: &Inbox,
+    giver: &mut Giver,
+    taker: &mut Taker,
+)
+    requires giver { giver.old.of_inbox ≡ inbox.now }
+    requires taker { taker.old.of_inbox ≡ inbox.now }
+{
+    takes(rt, inbox, taker, None);
+    offers(rt, inbox, giver, numbered(rt, alloc, HELD), None);
+    takes(rt, inbox, taker, Some(HELD));
+}
+
 #[test]
 fn a_full_inbox_gives_back_and_an_empty_one_has_none(rt: HostRuntime) -> Result<(), Fail> {
     let alloc = rt.alloc();
     let (inbox, giver, mut taker) = Inbox::new(alloc)?;
     takes(&rt, &inbox, &mut taker, None);
-    let mut giver = give(&rt, alloc, &inbox, giver, HELD)?;
-    offers(&rt, &inbox, &mut giver, numbered(alloc, HELD)?, Some(HELD));
-    inbox.compare(&mut giver, &mut taker);
+    let mut giver = give(&rt, alloc, &inbox, giver, HELD);
+    is_full(&rt, alloc, &inbox, &mut giver, &mut taker);
     let (mut taker, in_order) = receive(&rt, &inbox, taker, HELD);
     assert!(rt; in_order);
-    takes(&rt, &inbox, &mut taker, None);
-    offers(&rt, &inbox, &mut giver, numbered(alloc, HELD)?, None);
-    takes(&rt, &inbox, &mut taker, Some(HELD));
+    is_empty(&rt, alloc, &inbox, &mut giver, &mut taker);
     Ok(())
 }
 
@@ -156,11 +189,11 @@ fn a_thread_hands_messages_to_another_in_order(rt: HostRuntime) -> Result<(), Fa
     let alloc = rt.alloc();
     let (inbox, giver, taker) = Inbox::new(alloc)?;
     let shared = &inbox;
-    let (given, (mut taker, in_order)) = thread::join(
+    let (mut giver, (mut taker, in_order)) = thread::join(
         &rt,
         move ||
             requires { giver.of_inbox ≡ shared.now }
-            ensures { IfOk result (λ giver. giver.of_inbox ≡ shared.entry.now) }
+            ensures { result.of_inbox ≡ shared.entry.now }
         { give(&rt, alloc, shared, giver, RELAYED) },
         move ||
             requires { taker.of_inbox ≡ shared.now }
@@ -168,6 +201,6 @@ fn a_thread_hands_messages_to_another_in_order(rt: HostRuntime) -> Result<(), Fa
         { receive(&rt, shared, taker, RELAYED) },
     );
     assert!(rt; in_order);
-    inbox.compare(&mut given?, &mut taker);
+    inbox.compare(&mut giver, &mut taker);
     Ok(())
 }

@@ -6,37 +6,32 @@ use std::process::Abort;
 use tipc_live::{Audit, Gathered, can_audit};
 use tipc_node_lock::LockedNode;
 use tipc_pick::RoundRobin;
-use tipc_types::NoMemory;
 
-/// The journal had room for each call of a node's callers, so they followed the plan to its end.
-fn had_room(rt: &impl Abort, node: &LockedNode<RoundRobin>) {
-    for pass in node.passes() {
-        assert!(rt; !pass.is_full());
+/// Two nodes are left, whose journals had room for each call of their callers, so these followed the plan to its end.
+fn had_room(rt: &impl Abort, nodes: &[LockedNode<RoundRobin>]) {
+    assert!(rt; nodes.len() == 2);
+    for node in nodes {
+        assert!(rt; node.passes().iter().all(|pass| !pass.is_full()));
     }
 }
 
 /// What the audit answers.
-fn audited<B: Drop>(rt: &impl Abort, alloc: Global, left: Left<B>) -> Result<Audit, NoMemory> {
+fn audited<B: Drop>(rt: &impl Abort, alloc: Global, left: Left<B>) -> Audit {
     let Left { nodes, bearers, .. } = left;
     let mut gathered = Gathered::new(alloc);
     gathered.gather(nodes, bearers);
     if !can_audit(gathered.nodes()) {
         panic!(rt; "nodes that can't be audited together")
     }
-    gathered.audit(alloc)
+    match gathered.audit(alloc) {
+        Ok(answer) => answer,
+        Err(_) => panic!(rt; "no memory"),
+    }
 }
 
 /// Two nodes are left, whose callers followed the plan to its end, and the audit answers Yes.
-pub fn comes_to_yes<B: Drop>(
-    rt: &impl Abort,
-    alloc: Global,
-    left: Left<B>,
-) -> Result<(), NoMemory> {
-    assert!(rt; left.nodes.len() == 2);
-    for node in &left.nodes {
-        had_room(rt, node);
-    }
-    let answer = audited(rt, alloc, left)?;
+pub fn comes_to_yes<B: Drop>(rt: &impl Abort, alloc: Global, left: Left<B>) {
+    had_room(rt, left.nodes.as_slice());
+    let answer = audited(rt, alloc, left);
     assert!(rt; answer == Audit::Yes);
-    Ok(())
 }

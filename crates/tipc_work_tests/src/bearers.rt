@@ -1,6 +1,6 @@
 //! A bearer of a test, which gives one frame and keeps those that it is asked to send, and a run over such bearers.
 
-ghost use Rattle.std.specs.Prelude.{◌≡◌, length, replicate, IfOk};
+ghost use Rattle.std.specs.Prelude.{◌≡◌, ◌+◌, length, replicate};
 ghost use Rattle.tipc_stamp.specs.Seats.{new_seat};
 ghost use Rattle.tipc_work_tests.specs.declared.runs.TheConstants.{PASSES_OF_ONE_EACH};
 
@@ -11,7 +11,9 @@ use std::sync::Wait;
 use std::test::Fail;
 use std::thread::Threads;
 use tipc_journal::Entry;
+use tipc_node_lock::LockedNode;
 use tipc_outside::{Bearer, BearerFault, FreeGate, Heard};
+use tipc_pick::RoundRobin;
 use tipc_stamp::{StampSeat, Stamps};
 use tipc_types::*;
 
@@ -103,17 +105,26 @@ impl Bearer for OwnBearer {
     }
 }
 
-/// The bearers of two nodes, of which the first has the request.
-fn bearers(alloc: Global) -> Result<Vec<OwnBearer>, NoMemory>
-    ensures { IfOk result (λ bearers. length bearers.items ≡ 4) }
+/// Adds a bearer that has this frame.
+fn add(rt: &impl Abort, alloc: Global, bearers: &mut Vec<OwnBearer>, frame: Option<Bytes>)
+    ensures { length bearers.new.items ≡ length bearers.old.items + 1 }
 {
-    let request = Bytes::from_slice(alloc, &REQUEST)?;
+    match bearers.push(OwnBearer::new(alloc, frame)) {
+        Ok(()) => {}
+        Err(_) => panic!(rt; "no memory"),
+    }
+}
+
+/// The bearers of two nodes, of which the first has this request.
+fn bearers(rt: &impl Abort, alloc: Global, request: Bytes) -> Vec<OwnBearer>
+    ensures { length result.items ≡ 4 }
+{
     let mut bearers = Vec::new(alloc);
-    bearers.push(OwnBearer::new(alloc, Some(request)))?;
-    bearers.push(OwnBearer::new(alloc, None))?;
-    bearers.push(OwnBearer::new(alloc, None))?;
-    bearers.push(OwnBearer::new(alloc, None))?;
-    Ok(bearers)
+    add(rt, alloc, &mut bearers, Some(request));
+    add(rt, alloc, &mut bearers, None);
+    add(rt, alloc, &mut bearers, None);
+    add(rt, alloc, &mut bearers, None);
+    bearers
 }
 
 /// Whether a step of a journal is the first arrival, on bearer 0.
@@ -128,35 +139,47 @@ fn is_first_arrival(entry: &Entry) -> bool {
     }
 }
 
-/// Runs the plan over bearers of which the first gives a request: it arrives, byte for byte, and the response is sent there, byte for byte.
+/// The request arrived at a node as the first frame, byte for byte.
+fn heard_it(rt: &impl Abort, node: &LockedNode<RoundRobin>) {
+    assert!(rt; node.node().journal().iter().any(is_first_arrival));
+    let heard = node.heard();
+    assert!(rt; heard.len() == 1 && heard[0].as_slice() == REQUEST.as_slice());
+}
+
+/// The response was sent on a bearer to node 2, byte for byte.
+fn answered_it(rt: &impl Abort, bearer: &OwnBearer) {
+    assert!(rt; bearer.was_asked(To::Node(Addr::node(2)), RESPONSE.as_slice()));
+}
+
+/// The first of what is left.
+fn first<'a, T>(rt: &impl Abort, all: &'a [T]) -> &'a T {
+    match all.first() {
+        Some(one) => one,
+        None => panic!(rt; "nothing is left"),
+    }
+}
+
+/// Runs the plan over bearers of which the first gives a request: it arrives, and the response is sent there.
 fn run_answering<R: Threads + Wait + Abort + Sync>(
     rt: &R,
     alloc: Global,
     stamps: &Stamps,
     seats: Vec<StampSeat>,
-) -> Result<(), NoMemory>
+    request: Bytes,
+)
     requires { seats.items ≡ replicate PASSES_OF_ONE_EACH (new_seat stamps.now) }
 {
-    let bearers = bearers(alloc)?;
-    let left = run(rt, alloc, &ONE_EACH, stamps, seats, bearers, &FreeGate)?;
-    let Some(node) = left.nodes.first() else {
-        panic!(rt; "no node is left")
-    };
-    let Some(bearer) = left.bearers.first() else {
-        panic!(rt; "no bearer is left")
-    };
-    assert!(rt; node.node().journal().iter().any(is_first_arrival));
-    let heard = node.heard();
-    assert!(rt; heard.len() == 1 && heard[0].as_slice() == REQUEST.as_slice());
-    assert!(rt; bearer.was_asked(To::Node(Addr::node(2)), RESPONSE.as_slice()));
+    let bearers = bearers(rt, alloc, request);
+    let left = run(rt, alloc, &ONE_EACH, stamps, seats, bearers, &FreeGate);
+    heard_it(rt, first(rt, left.nodes.as_slice()));
+    answered_it(rt, first(rt, left.bearers.as_slice()));
     assert!(rt; !left.failed);
-    Ok(())
 }
 
 #[test]
 fn a_request_is_answered_on_its_bearer(rt: HostRuntime) -> Result<(), Fail> {
-    let alloc = rt.alloc();
-    let (stamps, seats) = Stamps::new(alloc, PASSES_OF_ONE_EACH)?;
-    run_answering(&rt, alloc, &stamps, seats)?;
+    let request = Bytes::from_slice(rt.alloc(), &REQUEST)?;
+    let (stamps, seats) = Stamps::new(rt.alloc(), PASSES_OF_ONE_EACH)?;
+    run_answering(&rt, rt.alloc(), &stamps, seats, request);
     Ok(())
 }

@@ -1,7 +1,7 @@
 //! Runs of two nodes with one caller each, by clocks that go on by 1 at each look: over a medium in memory, also where the first call of a bearer
 //! fails, and over UDP. Each is audited Yes.
 
-ghost use Rattle.std.specs.Prelude.{◌≡◌, ◌≤◌, length, replicate, IfOk, IfSome};
+ghost use Rattle.std.specs.Prelude.{◌≡◌, ◌≤◌, ◌+◌, length, replicate, IfOk, IfSome, IsTrue};
 ghost use Rattle.tipc_stamp.specs.Seats.{new_seat};
 ghost use Rattle.tipc_work_tests.specs.declared.runs.TheConstants.{PASSES_OF_ONE_EACH};
 
@@ -15,7 +15,6 @@ use std::test::Fail;
 use std::thread::Threads;
 use tipc_outside::{FreeGate, Medium};
 use tipc_stamp::{StampSeat, Stamps};
-use tipc_types::NoMemory;
 use tipc_udp::UdpBearer;
 use tipc_work::LivePlan;
 
@@ -25,31 +24,39 @@ fn run_in_memory<R: Threads + Wait + Abort + Sync>(
     alloc: Global,
     stamps: &Stamps,
     seats: Vec<StampSeat>,
+    medium: &Medium,
     failing: Vec<u64>,
-) -> Result<(), NoMemory>
+)
     requires { seats.items ≡ replicate PASSES_OF_ONE_EACH (new_seat stamps.now) }
 {
     let fails = !failing.is_empty();
-    let medium = Medium::new(alloc)?;
-    let bearers = memory_bearers(rt, alloc, &medium, failing)?;
-    let left = run(rt, alloc, &ONE_EACH, stamps, seats, bearers, &FreeGate)?;
+    let bearers = memory_bearers(rt, alloc, medium, failing);
+    let left = run(rt, alloc, &ONE_EACH, stamps, seats, bearers, &FreeGate);
     assert!(rt; left.failed == fails);
-    comes_to_yes(rt, alloc, left)
+    comes_to_yes(rt, alloc, left);
 }
 
 #[test]
 fn a_run_in_memory_is_audited_yes(rt: HostRuntime) -> Result<(), Fail> {
-    let alloc = rt.alloc();
-    let (stamps, seats) = Stamps::new(alloc, PASSES_OF_ONE_EACH)?;
-    run_in_memory(&rt, alloc, &stamps, seats, Vec::new(alloc))?;
+    let medium = Medium::new(rt.alloc())?;
+    let (stamps, seats) = Stamps::new(rt.alloc(), PASSES_OF_ONE_EACH)?;
+    run_in_memory(
+        &rt,
+        rt.alloc(),
+        &stamps,
+        seats,
+        &medium,
+        Vec::new(rt.alloc()),
+    );
     Ok(())
 }
 
 #[test]
 fn a_bearer_whose_first_call_fails_is_seen_to_fail(rt: HostRuntime) -> Result<(), Fail> {
-    let alloc = rt.alloc();
-    let (stamps, seats) = Stamps::new(alloc, PASSES_OF_ONE_EACH)?;
-    run_in_memory(&rt, alloc, &stamps, seats, Vec::from_slice(alloc, &[1])?)?;
+    let medium = Medium::new(rt.alloc())?;
+    let failing = Vec::from_slice(rt.alloc(), &[1])?;
+    let (stamps, seats) = Stamps::new(rt.alloc(), PASSES_OF_ONE_EACH)?;
+    run_in_memory(&rt, rt.alloc(), &stamps, seats, &medium, failing);
     Ok(())
 }
 
@@ -61,41 +68,54 @@ const OVER_UDP: LivePlan = LivePlan {
     messages: 1,
 };
 
-/// Both bearers of nodes 1 and 2 over UDP, with this base of their ports; None where one of the ports can't be bound.
-fn bound(rt: &impl Net, alloc: Global, base: u16) -> Result<Option<Vec<UdpBearer>>, NoMemory>
-    requires { base ≤ 65439 }
-    ensures { IfOk result (λ found. IfSome found (λ bearers. length bearers.items ≡ 4)) }
+/// Whether a bearer of a node could be bound over UDP, with this base of the ports; then it is added.
+fn binds(
+    rt: &(impl Net + Abort),
+    bearers: &mut Vec<UdpBearer>,
+    node: u8,
+    bearer: u8,
+    base: u16,
+) -> bool
+    requires node { (1 ≤ node) × (node ≤ 2) }
+    requires bearer { bearer ≤ 1 }
+    requires base { base ≤ 65439 }
+    ensures { IsTrue result → length bearers.new.items ≡ length bearers.old.items + 1 }
 {
-    let Ok(first) = UdpBearer::bind(rt, 1, 0, base, 2) else {
-        return Ok(None)
+    let Ok(bound) = UdpBearer::bind(rt, node, bearer, base, 2) else {
+        return false
     };
-    let Ok(second) = UdpBearer::bind(rt, 1, 1, base, 2) else {
-        return Ok(None)
-    };
-    let Ok(third) = UdpBearer::bind(rt, 2, 0, base, 2) else {
-        return Ok(None)
-    };
-    let Ok(fourth) = UdpBearer::bind(rt, 2, 1, base, 2) else {
-        return Ok(None)
-    };
-    let mut bearers = Vec::with_capacity(alloc, 4)?;
-    bearers.push(first)?;
-    bearers.push(second)?;
-    bearers.push(third)?;
-    bearers.push(fourth)?;
-    Ok(Some(bearers))
+    match bearers.push(bound) {
+        Ok(()) => true,
+        Err(_) => panic!(rt; "no memory"),
+    }
+}
+
+/// Both bearers of nodes 1 and 2 over UDP, with this base of their ports; None where one of the ports can't be bound.
+fn all_bound(rt: &(impl Net + Abort), alloc: Global, base: u16) -> Option<Vec<UdpBearer>>
+    requires { base ≤ 65439 }
+    ensures { IfSome result (λ bearers. length bearers.items ≡ 4) }
+{
+    let mut bearers = Vec::new(alloc);
+    if binds(rt, &mut bearers, 1, 0, base)
+        && binds(rt, &mut bearers, 1, 1, base)
+        && binds(rt, &mut bearers, 2, 0, base)
+        && binds(rt, &mut bearers, 2, 1, base)
+    {
+        return Some(bearers);
+    }
+    None
 }
 
 /// The same with the first base, from 41,000 on, whose ports can be bound, of 100.
 ///
 /// # Errors
 ///
-/// Where there is none, as on a machine without a loopback address, or where memory runs out.
-fn udp_bearers(rt: &impl Net, alloc: Global) -> Result<Vec<UdpBearer>, Fail>
+/// Where there is none, as on a machine without a loopback address.
+fn udp_bearers(rt: &(impl Net + Abort), alloc: Global) -> Result<Vec<UdpBearer>, Fail>
     ensures { IfOk result (λ bearers. length bearers.items ≡ 4) }
 {
     for step in 0..100 {
-        if let Some(bearers) = bound(rt, alloc, 41_000 + 128 * step)? {
+        if let Some(bearers) = all_bound(rt, alloc, 41_000 + 128 * step) {
             return Ok(bearers);
         }
     }
@@ -109,20 +129,19 @@ fn run_over_udp<R: Threads + Wait + Abort + Sync>(
     stamps: &Stamps,
     seats: Vec<StampSeat>,
     bearers: Vec<UdpBearer>,
-) -> Result<(), NoMemory>
+)
     requires seats { seats.items ≡ replicate PASSES_OF_ONE_EACH (new_seat stamps.now) }
     requires bearers { length bearers.items ≡ 4 }
 {
-    let left = run(rt, alloc, &OVER_UDP, stamps, seats, bearers, &FreeGate)?;
+    let left = run(rt, alloc, &OVER_UDP, stamps, seats, bearers, &FreeGate);
     assert!(rt; !left.failed);
-    comes_to_yes(rt, alloc, left)
+    comes_to_yes(rt, alloc, left);
 }
 
 #[test]
 fn a_run_over_udp_is_audited_yes(rt: HostRuntime) -> Result<(), Fail> {
-    let alloc = rt.alloc();
-    let bearers = udp_bearers(&rt, alloc)?;
-    let (stamps, seats) = Stamps::new(alloc, PASSES_OF_ONE_EACH)?;
-    run_over_udp(&rt, alloc, &stamps, seats, bearers)?;
+    let bearers = udp_bearers(&rt, rt.alloc())?;
+    let (stamps, seats) = Stamps::new(rt.alloc(), PASSES_OF_ONE_EACH)?;
+    run_over_udp(&rt, rt.alloc(), &stamps, seats, bearers);
     Ok(())
 }

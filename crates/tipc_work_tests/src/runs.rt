@@ -1,6 +1,6 @@
 //! Whole runs of a plan, by clocks that go on by 1 at each look, and one whose callers overlap.
 
-ghost use Rattle.std.specs.Prelude.{◌≡◌, ◌*◌, ◌+◌, All, length, replicate, IfOk};
+ghost use Rattle.std.specs.Prelude.{◌≡◌, ◌*◌, ◌+◌, All, length, replicate};
 ghost use Rattle.tipc_stamp.specs.Seats.{new_seat};
 ghost use Rattle.tipc_work.specs.Plans.{IsLivePlan};
 ghost use Rattle.tipc_work_tests.specs.declared.runs.TheConstants.{PASSES};
@@ -9,6 +9,7 @@ use crate::audits::comes_to_yes;
 use crate::gates::HoldingGate;
 use std::alloc::Global;
 use std::collections::VecDeque;
+use std::mem;
 use std::process::Abort;
 use std::sync::Wait;
 use std::test::Fail;
@@ -21,26 +22,54 @@ use tipc_types::*;
 use tipc_work::*;
 
 /// Choosers that take the matches in turn.
-fn choosers(alloc: Global, nodes: u8) -> Result<Vec<Chooser<RoundRobin>>, NoMemory>
-    ensures { IfOk result (λ choosers. (length choosers.items ≡ nodes) ×
-        All (λ chooser. chooser.turn ≡ 0) choosers.items) }
+fn choosers(rt: &impl Abort, alloc: Global, nodes: u8) -> Vec<Chooser<RoundRobin>>
+    ensures { (length result.items ≡ nodes) × All (λ chooser. chooser.turn ≡ 0) result.items }
 {
     let mut choosers = Vec::new(alloc);
     for _ in 0..nodes {
-        choosers.push(Chooser::new(RoundRobin))?;
+        match choosers.push(Chooser::new(RoundRobin)) {
+            Ok(()) => {}
+            Err(_) => panic!(rt; "no memory"),
+        }
     }
-    Ok(choosers)
+    choosers
 }
 
 /// Clocks that go on by 1 at each look.
-fn clocks(alloc: Global, nodes: u8) -> Result<Vec<StepClock>, NoMemory>
-    ensures { IfOk result (λ clocks. length clocks.items ≡ nodes) }
+fn clocks(rt: &impl Abort, alloc: Global, nodes: u8) -> Vec<StepClock>
+    ensures { length result.items ≡ nodes }
 {
     let mut clocks = Vec::new(alloc);
     for _ in 0..nodes {
-        clocks.push(StepClock::new())?;
+        match clocks.push(StepClock::new()) {
+            Ok(()) => {}
+            Err(_) => panic!(rt; "no memory"),
+        }
     }
-    Ok(clocks)
+    clocks
+}
+
+/// Takes a node out of its lock, with its passes.
+fn out_of(
+    rt: &impl Abort,
+    lock: NodeLock<'_, RoundRobin>,
+    passes: Option<Vec<Pass>>,
+) -> LockedNode<RoundRobin> {
+    let Some(passes) = passes else {
+        panic!(rt; "a node has no passes")
+    };
+    match lock.into_locked(passes) {
+        Ok(node) => node,
+        Err(_) => panic!(rt; "a pass is missing"),
+    }
+}
+
+/// Adds a node.
+fn add(rt: &impl Abort, nodes: &mut Vec<LockedNode<RoundRobin>>, node: LockedNode<RoundRobin>) {
+    match nodes.push(node) {
+        Ok(()) => {}
+        Err(_) => panic!(rt; "no memory"),
+    }
 }
 
 /// Takes each node out of its lock, with its passes.
@@ -49,19 +78,14 @@ fn take_out(
     alloc: Global,
     locks: Vec<NodeLock<'_, RoundRobin>>,
     passes: Vec<Vec<Pass>>,
-) -> Result<Vec<LockedNode<RoundRobin>>, NoMemory> {
-    let mut nodes = Vec::with_capacity(alloc, locks.len())?;
+) -> Vec<LockedNode<RoundRobin>> {
+    let mut nodes = Vec::new(alloc);
     let mut waiting = VecDeque::from_vec(passes);
     for lock in locks {
-        let Some(passes) = waiting.pop_front() else {
-            panic!(rt; "a node has no passes")
-        };
-        match lock.into_locked(passes) {
-            Ok(node) => nodes.push(node)?,
-            Err(_) => panic!(rt; "a pass is missing"),
-        }
+        let node = out_of(rt, lock, waiting.pop_front());
+        add(rt, &mut nodes, node);
     }
-    Ok(nodes)
+    nodes
 }
 
 /// What a run left: the nodes with their passes, and the bearers.
@@ -70,6 +94,25 @@ pub struct Left<B> {
     pub nodes: Vec<LockedNode<RoundRobin>>,
     pub bearers: Vec<B>,
     pub failed: bool,
+}
+
+/// What is left when the callers and movers of these locks have worked.
+fn what_is_left<B: Drop>(
+    rt: &impl Abort,
+    alloc: Global,
+    locks: Vec<NodeLock<'_, RoundRobin>>,
+    worked: Worked<B>,
+) -> Left<B> {
+    let Worked {
+        passes,
+        bearers,
+        failed,
+    } = worked;
+    Left {
+        nodes: take_out(rt, alloc, locks, passes),
+        bearers,
+        failed,
+    }
 }
 
 /// Runs a plan over these bearers.
@@ -82,20 +125,17 @@ pub fn run<R: Threads + Wait + Abort + Sync, B: Bearer + Send + Drop, G: Gate + 
     seats: Vec<StampSeat>,
     bearers: Vec<B>,
     gate: &G,
-) -> Result<Left<B>, NoMemory>
+) -> Left<B>
     requires plan { IsLivePlan plan.now }
     requires seats { seats.items ≡ replicate (plan.now.nodes * (plan.now.callers + 1)) (new_seat stamps.now) }
     requires bearers { length bearers.items ≡ 2 * plan.now.nodes }
 {
-    let Nodes { locks, passes } = lock_nodes(
-        alloc,
-        plan,
-        choosers(alloc, plan.nodes)?,
-        stamps,
-        seats,
-    )?;
-    let clocks = clocks(alloc, plan.nodes)?;
-    let worked = work(
+    let choosers = choosers(rt, alloc, plan.nodes);
+    let Ok(Nodes { locks, passes }) = lock_nodes(alloc, plan, choosers, stamps, seats) else {
+        panic!(rt; "no memory")
+    };
+    let clocks = clocks(rt, alloc, plan.nodes);
+    let Ok(worked) = work(
         rt,
         alloc,
         plan,
@@ -104,17 +144,10 @@ pub fn run<R: Threads + Wait + Abort + Sync, B: Bearer + Send + Drop, G: Gate + 
         bearers,
         clocks,
         gate,
-    )?;
-    let Worked {
-        passes,
-        bearers,
-        failed,
-    } = worked;
-    Ok(Left {
-        nodes: take_out(rt, alloc, locks, passes)?,
-        bearers,
-        failed,
-    })
+    ) else {
+        panic!(rt; "no memory")
+    };
+    what_is_left(rt, alloc, locks, worked)
 }
 
 /// Two nodes with one caller each, which sends one message.
@@ -140,23 +173,24 @@ const PLAN: LivePlan = LivePlan {
 const PASSES: u32 = 6;
 
 /// Both bearers of nodes 1 and 2 over a medium. Calls of these numbers fail at the first of them.
-pub fn memory_bearers<'m, R: Wait>(
+pub fn memory_bearers<'m, R: Wait + Abort>(
     rt: &'m R,
     alloc: Global,
     medium: &'m Medium,
-    failing: Vec<u64>,
-) -> Result<Vec<MemoryBearer<'m, &'m R>>, NoMemory>
-    ensures { IfOk result (λ bearers. length bearers.items ≡ 4) }
+    mut failing: Vec<u64>,
+) -> Vec<MemoryBearer<'m, &'m R>>
+    ensures { length result.items ≡ 4 }
 {
-    let mut bearers = Vec::with_capacity(alloc, 4)?;
-    let first = MemoryBearer::new(rt, alloc, medium, Addr::node(1), 0, failing);
-    bearers.push(first)?;
-    for place in 1..4_u8 {
+    let mut bearers = Vec::new(alloc);
+    for place in 0..4_u8 {
+        let calls = mem::replace(&mut failing, Vec::new(alloc));
         let node = Addr::node(1 + place / 2);
-        let none = Vec::new(alloc);
-        bearers.push(MemoryBearer::new(rt, alloc, medium, node, place % 2, none))?;
+        match bearers.push(MemoryBearer::new(rt, alloc, medium, node, place % 2, calls)) {
+            Ok(()) => {}
+            Err(_) => panic!(rt; "no memory"),
+        }
     }
-    Ok(bearers)
+    bearers
 }
 
 /// Runs the plan over a medium, with a gate that holds the first caller until another call of its node was answered. The audit answers Yes.
@@ -165,21 +199,21 @@ fn run_held<R: Threads + Wait + Abort + Sync>(
     alloc: Global,
     stamps: &Stamps,
     seats: Vec<StampSeat>,
-) -> Result<(), NoMemory>
+    medium: &Medium,
+)
     requires { seats.items ≡ replicate PASSES (new_seat stamps.now) }
 {
-    let medium = Medium::new(alloc)?;
     let gate = HoldingGate::new();
-    let bearers = memory_bearers(rt, alloc, &medium, Vec::new(alloc))?;
-    let left = run(rt, alloc, &PLAN, stamps, seats, bearers, &gate)?;
+    let bearers = memory_bearers(rt, alloc, medium, Vec::new(alloc));
+    let left = run(rt, alloc, &PLAN, stamps, seats, bearers, &gate);
     assert!(rt; !gate.gave_up() && !left.failed);
-    comes_to_yes(rt, alloc, left)
+    comes_to_yes(rt, alloc, left);
 }
 
 #[test]
 fn callers_of_one_node_overlap(rt: HostRuntime) -> Result<(), Fail> {
-    let alloc = rt.alloc();
-    let (stamps, seats) = Stamps::new(alloc, PASSES)?;
-    run_held(&rt, alloc, &stamps, seats)?;
+    let medium = Medium::new(rt.alloc())?;
+    let (stamps, seats) = Stamps::new(rt.alloc(), PASSES)?;
+    run_held(&rt, rt.alloc(), &stamps, seats, &medium);
     Ok(())
 }

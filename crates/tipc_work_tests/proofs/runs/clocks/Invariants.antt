@@ -3,4 +3,4 @@ use Rattle.tipc_work_tests.proofs.runs.clocks.Given as goal
 
 -- so many clocks are made
 abbrev pub invariant-loop : goal.invariant-loop
-invariant-loop l = length l.clocks.items ≡ l.counter
+invariant-loop g l = length l.clocks.items ≡ l.counter
