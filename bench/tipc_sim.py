@@ -3,7 +3,8 @@
 how much memory it holds at the end, beside the bytes of the frames in its air. What a message costs where two links stand,
 beside one link; what a failover costs by the number of packets that it moves. What a message by name costs beside one
 by port; what a publication costs that every peer is told of; what a contact costs that begins with publications, and what
-a change costs that subscribers are told of; and what a multicast costs, and how often it asks for memory.
+a change costs that subscribers are told of; and what a multicast costs, and how often it asks for memory. And how many
+frames of 1,452 bytes `dissect` tells a second.
 
 It runs the program that `rt ci` left in crates/tipc_sim/out, and counts instructions and allocations by valgrind; it is no part of the gate.
 """
@@ -171,6 +172,20 @@ def measure_members(members: int) -> None:
           f"{cast / one:.2f} times one that is sent and {members} that are received")
 
 
+def measure_frames(frames: int) -> None:
+    """Prints what the texts of frames took, each of which carries a message of 1,404 bytes in direct payload."""
+    size = MESSAGE_HEADER + 1_404
+    front = f"{1:08x}" * 4 + f"{0x41000000 + size:08x}60000000"
+    behind = "01001001" + f"{1:08x}" * 2 + "0100100101001002"
+    body = "".join(f"{place % 251:02x}" for place in range(1_404))
+    lines = "".join(f"{front}{number % 65_536:08x}{behind}{body}\n" for number in range(frames)).encode()
+    start = time.monotonic()
+    with subprocess.Popen([PROGRAM, "dissect"], stdin=subprocess.PIPE, stdout=subprocess.PIPE) as child:
+        told, _ = child.communicate(lines)
+    seconds = time.monotonic() - start
+    print(f"{frames} frames of {ENVELOPE + size:,} bytes as text: {seconds:.3f} s, {frames / seconds:,.0f} a second, {len(told):,} bytes written")
+
+
 def main() -> None:
     for count in (1_000, 10_000, 30_000, 65_540):
         measure(f"burst of {count} messages of 1 byte", burst(count), count, 1)
@@ -194,6 +209,7 @@ def main() -> None:
         measure_multicasts(sockets)
     for members in (1, 8, 31):
         measure_members(members)
+    measure_frames(5_700)
 
 
 if __name__ == "__main__":

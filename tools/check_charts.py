@@ -5,7 +5,8 @@ check_charts.py PROGRAM: each stored chart (docs/charts/NAME.svg, of examples/NA
 (docs/picture.svg) has to be what tools/chart.py and tools/picture.py draw now. And each chart of the examples, and of
 the rows that are run to their end and aren't long, is drawn and counted: the answers beside its lines are those of the
 report; a line `pump` has as many arrows as it pumped, and a line `arrive` one, unless there was no frame; and each frame
-of the air, of which `air` tells how many there are, has an arrow or more, or the cross of one that never arrives, and not both.
+of the air, of which `air` tells how many there are, has an arrow or more, or the cross of one that never arrives, and not
+both; and no label lies over an arrow or another label.
 It ends with a line `N passed, M failed`.
 
 check_charts.py PROGRAM --write: draws the stored charts and the picture anew.
@@ -24,7 +25,15 @@ import tracing
 TOP = pathlib.Path(__file__).resolve().parent.parent
 CHARTS = TOP / "docs" / "charts"
 PICTURE = TOP / "docs" / "picture.svg"
-STORED = ("a_service", "names_and_returns", "a_link_cut_under_load", "a_multicast_is_repaired")
+STORED = (
+    "a_service",
+    "names_and_returns",
+    "a_link_cut_under_load",
+    "a_multicast_is_repaired",
+    "service_tracking",
+    "a_second_server_takes_over",
+    "a_rolling_restart",
+)
 SVG = "{http://www.w3.org/2000/svg}"
 # A script of more lines, or of more rounds in one, is passed over.
 MOST_LINES, MOST_ROUNDS = 60, 50
@@ -129,8 +138,9 @@ def drawn_faults(program: str) -> list:
     faults = []
     for name, texts in scripts(program).items():
         try:
-            told = tracing.trace(program, "\n".join(texts) + "\n")
-            faults.append((name, fault_of(program, texts, chart.Drawing(told, name).svg())))
+            made = chart.Drawing(tracing.trace(program, "\n".join(texts) + "\n"), name)
+            fault = fault_of(program, texts, made.svg())
+            faults.append((name, fault or (f"{made.labels.crowded} labels lie over others or arrows" if made.labels.crowded else "")))
         except tracing.CannotTrace as error:
             faults.append((name, str(error)))
     return faults

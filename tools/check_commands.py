@@ -23,7 +23,7 @@ COMMANDS = re.compile(r"^## Two commands$.*?^    (\./tipc_sim run < \S+)\n    (\
 REPORT = re.compile(r"(?:^    [0-9]+ [^\n]*\n)+", re.MULTILINE)
 PASSED = re.compile(r"^\d+ passed, 0 failed", re.MULTILINE)
 NOTE = "unproved"
-PARTS_OF_THE_GATE = 4
+PARTS_OF_THE_GATE = 6
 
 
 class Failed(Exception):

@@ -3,6 +3,8 @@
 
 check_docs.py PROGRAM: all examples. It ends with a line `N passed, M failed`, and with status 1 where one failed or
 the program isn't there.
+check_docs.py --show [N]: all examples with their numbers and places; or the script of example N alone, whole, with the
+block on which it goes on: `check_docs.py --show 7 | ./tipc_sim run`.
 
 An example is one of these:
 
@@ -23,6 +25,7 @@ TOP = Path(__file__).resolve().parent.parent
 PAGES = [TOP / "docs" / "SCRIPTS.md", TOP / "docs" / "WALK.md"]
 ARROW = "→"
 BLOCK = re.compile(r"^```script *([^\n]*)\n(.*?)^```$", re.MULTILINE | re.DOTALL)
+FRAMES = re.compile(rf"^```dissect\n(.*?)^{ARROW}\n(.*?)^```$", re.MULTILINE | re.DOTALL)
 COMMAND = re.compile(r"^    \./tipc_sim run < (\S+)$", re.MULTILINE)
 REPORT = re.compile(r"(?:^    [0-9]+ [^\n]*\n)+", re.MULTILINE)
 
@@ -35,6 +38,7 @@ class Example(NamedTuple):
     place: str
     script: str
     report: str
+    word: str = "run"
 
 
 class BadPage(Exception):
@@ -68,6 +72,12 @@ def examples_of_page(path: Path) -> Iterator[Example]:
         yield Example(place, script, report)
 
 
+def frames_of_page(path: Path) -> Iterator[Example]:
+    page = path.read_text()
+    for block in FRAMES.finditer(page):
+        yield Example(f"{path.name}:{page.count(chr(10), 0, block.start()) + 1}", block[1], block[2], "dissect")
+
+
 def examples_of_readme() -> Iterator[Example]:
     text = (TOP / "README.md").read_text()
     for command in COMMAND.finditer(text):
@@ -88,18 +98,41 @@ def examples_of_folder() -> Iterator[Example]:
 
 def fault_of(program: str, example: Example) -> str:
     """What is wrong with an example; nothing where the program prints just that."""
-    ended = subprocess.run([program, "run"], input=example.script.encode(), capture_output=True, timeout=SECONDS)
+    ended = subprocess.run([program, example.word], input=example.script.encode(), capture_output=True, timeout=SECONDS)
     printed, wanted = ended.stdout.decode().splitlines(), example.report.splitlines()
     for one, other in zip(wanted, printed):
         if one != other:
             return f"{other[:100]!r} is printed where the document has {one[:100]!r}"
     if len(printed) != len(wanted):
         return f"{len(printed)} lines are printed where the document has {len(wanted)}"
-    status = STATUS.get(wanted[-1].split()[1], 0)
+    last = next(line for line in reversed(wanted) if not line.startswith(" "))
+    status = STATUS.get(last.split()[1], 0)
     return "" if ended.returncode == status else f"status {ended.returncode}, wanted {status}"
 
 
+def all_examples() -> list:
+    of_pages = [example for path in PAGES for example in (*examples_of_page(path), *frames_of_page(path))]
+    return [*of_pages, *examples_of_readme(), *examples_of_folder()]
+
+
+def show(words: list) -> int:
+    """The examples with their numbers, or one of them."""
+    examples = all_examples()
+    if not words:
+        for number, example in enumerate(examples, 1):
+            own = example.script.splitlines()[-1]
+            print(f"{number:4} {example.place:<36} .. {own}")
+        return 0
+    if len(words) > 1 or not words[0].isdigit() or not 1 <= int(words[0]) <= len(examples):
+        print(f"--show N, with N from 1 to {len(examples)}", file=sys.stderr)
+        return 1
+    sys.stdout.write(examples[int(words[0]) - 1].script)
+    return 0
+
+
 def main(words: list) -> int:
+    if words[:1] == ["--show"]:
+        return show(words[1:])
     if len(words) != 1:
         print(__doc__, file=sys.stderr)
         return 1
@@ -107,8 +140,7 @@ def main(words: list) -> int:
     try:
         if not os.access(program, os.X_OK):
             raise BadPage(f"{program} isn't there, so no example was run")
-        of_pages = [example for path in PAGES for example in examples_of_page(path)]
-        examples = [*of_pages, *examples_of_readme(), *examples_of_folder()]
+        examples = all_examples()
     except (BadPage, OSError) as bad:
         print(f"FAILED {bad}")
         print("0 passed, 1 failed")

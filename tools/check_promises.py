@@ -17,7 +17,8 @@ crates is a part of its own. A name in backticks is one of these, in a crate of 
 What isn't spelled as a name, a formula say, is passed over. An item of a list that begins with a name promises something
 of it, and a part has one such item for each.
 
-Each crate has a line in docs/ARCHITECTURE.md, and one in docs/PROMISES.md or, where it holds tests, in docs/GATE.md.
+Each crate has a line in docs/ARCHITECTURE.md, and a row in docs/PROMISES.md or, where it holds tests, a line in
+docs/GATE.md. (What each crate promises, clause by clause, is printed from its sources by tools/pages.py.)
 """
 
 import collections
@@ -163,6 +164,7 @@ def look_up(code: Code, page: str) -> tuple:
 def unlisted(code: Code) -> list:
     """The crates that have no line on a page where they should."""
     pages = {page: (TOP / "docs" / page).read_text(encoding="utf-8") for page in ("ARCHITECTURE.md", "PROMISES.md", "GATE.md")}
+    pages["PROMISES.md"] = " ".join(row[1] for row in ROW.finditer(pages["PROMISES.md"]))
     places = [(page, crate) for crate in code.below for page in ("ARCHITECTURE.md", "GATE.md" if crate.endswith("_tests") else "PROMISES.md")]
     return [f"{page}: {crate} has no line" for page, crate in places if not re.search(rf"\b{crate}\b", pages[page])]
 

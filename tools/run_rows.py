@@ -13,7 +13,8 @@ A row is a few files in rows/:
     NAME.make     in place of a long script or report: `NAME.make script` and `NAME.make report` print what
                   isn't stored (Python 3; where NAME.report is stored, that counts)
 
-rows/bad_lines.table has lines that are bad by themselves; each is run as a script of its own.
+rows/bad_lines.table has lines that are bad by themselves; each is run as a script of its own. rows/bad_frames.table has
+lines that are no frame; each is a source of its own under `dissect`.
 
 A few cases more stand here, since no file can say them: a full device and a closed one behind standard output, a
 closed standard input, and little memory. So do live runs, of which no two print the same numbers: each must end with its
@@ -32,9 +33,10 @@ from pathlib import Path
 ROWS = Path(__file__).resolve().parent.parent / "rows"
 SECONDS = 60
 KINDS = {".script", ".report", ".status", ".words", ".make"}
-TABLE = "bad_lines.table"
+TABLES = {"run": "bad_lines.table", "dissect": "bad_frames.table"}
 
 A_NODE = b"node 1\n"
+A_FRAME = b"00" * 40 + b"\n"
 USAGE, BAD_LINE, READ_FAULT, WRITE_FAULT, NO_MEMORY, BEARER_FAULT = 1, 2, 3, 4, 5, 7
 MEBIBYTE = 1 << 20
 
@@ -66,14 +68,15 @@ def status_of(name: str) -> int:
     return int(path.read_text()) if path.exists() else 0
 
 
-def bad_lines() -> dict:
-    """The lines of the table: by a name, the script of one line and the report that it must give."""
+def bad_lines(word: str) -> dict:
+    """The lines of the table for this word: by a name, the word, the source of one line and the report that it must give."""
     found = {}
-    for line in (ROWS / TABLE).read_text().splitlines():
+    for line in (ROWS / TABLES[word]).read_text().splitlines():
         fault, tab, text = line.partition("\t")
         if not line.startswith("#"):
-            script = text.encode("ascii").decode("unicode_escape").encode("latin-1")
-            found[f"bad line {text!r}"] = (script, f"1 bad {fault}\n".encode())
+            source = text.encode("ascii").decode("unicode_escape").encode("latin-1")
+            why = fault if word == "run" else f"{fault} body"
+            found[f"bad line {text!r} under {word}"] = (word, source, f"1 bad {why}\n".encode())
     return found
 
 
@@ -125,13 +128,17 @@ DEVICES = {
     "other words over a closed input": (A_NODE, "walk <&-", USAGE),
     "other words over a full device": (A_NODE, "walk >/dev/full", USAGE),
     "a live run over a full device": (b"", "live memory 2 1 1 >/dev/full", WRITE_FAULT),
+    "frames over a full device": (A_FRAME, "dissect >/dev/full", WRITE_FAULT),
+    "a line that is no frame over a full device": (A_FRAME + A_NODE, "dissect >/dev/full", WRITE_FAULT),
+    "frames over a closed output": (A_FRAME, "dissect >&-", WRITE_FAULT),
+    "frames of a closed input": (A_FRAME, "dissect <&-", READ_FAULT),
 }
 
 
-def fault_of_little(program: str, script: bytes, most: int, front: bytes) -> str:
+def fault_of_little(program: str, word: str, script: bytes, most: int, front: bytes) -> str:
     """The same for a run that has so many bytes of memory at most, and runs out: it may print any front of these bytes."""
     ended = subprocess.run(
-        [program, "run"],
+        [program, word],
         input=script,
         capture_output=True,
         timeout=SECONDS,
@@ -144,15 +151,17 @@ def fault_of_little(program: str, script: bytes, most: int, front: bytes) -> str
     return f"on standard error: {ended.stderr[:100]!r}" if ended.stderr else ""
 
 
-# A script, the memory that the program has, its code included, and the answers of the lines for which that is enough.
-# The program starts with 3 MiB. The air keeps the 60,000,000 bytes of the thousand bodies; a script is read whole.
+# A word and a script, the memory that the program has, its code included, and the answers of the lines for which that is
+# enough. The program starts with 3 MiB. The air keeps the 60,000,000 bytes of the thousand bodies; a script is read whole.
 LITTLE_MEMORY = {
     "memory runs out in a line": (
+        "run",
         b"node 1\nnode 2\nlink 1 2 0\nsocket 1\nsocket 2\nburst 1 1 2 1 1000 *60000\nflow 1 2\n",
         32 * MEBIBYTE,
         b"1 ok\n2 ok\n3 up\n4 socket 1\n5 socket 1\n",
     ),
-    "memory runs out before the first line": (A_NODE + b"#" * (12 * MEBIBYTE), 8 * MEBIBYTE, b""),
+    "memory runs out before the first line": ("run", A_NODE + b"#" * (12 * MEBIBYTE), 8 * MEBIBYTE, b""),
+    "memory runs out before the first frame": ("dissect", A_FRAME * (12 * MEBIBYTE // 81), 8 * MEBIBYTE, b""),
 }
 
 
@@ -254,7 +263,8 @@ def fault_of(program: str, name: str, table: dict) -> str:
         if name in LITTLE_MEMORY:
             return fault_of_little(program, *LITTLE_MEMORY[name])
         if name in table:
-            return fault_of_run([program, "run"], *table[name], BAD_LINE)
+            word, source, report = table[name]
+            return fault_of_run([program, word], source, report, BAD_LINE)
         if name in NO_LIVE_RUNS:
             return fault_of_run([program, *NO_LIVE_RUNS[name]], b"", b"", USAGE)
         if name in LIVE_RUNS:
@@ -274,9 +284,9 @@ def main(words: list) -> int:
         return 1
     program = os.path.abspath(words[0])
     try:
-        table = bad_lines()
+        table = bad_lines("run") | bad_lines("dissect")
     except (OSError, ValueError) as error:
-        print(f"rows/{TABLE} can't be read: {error}")
+        print(f"a table of rows/ can't be read: {error}")
         print("0 passed, 1 failed")
         return 1
     names = words[1:] or [*names_of_rows(), *table, *DEVICES, *LITTLE_MEMORY, *NO_LIVE_RUNS, *LIVE_RUNS, A_TAKEN_PORT]

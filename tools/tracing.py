@@ -4,23 +4,27 @@
 tracing.py PROGRAM SCRIPT: a line for each arrival of a frame, and one for each frame that never arrives. A frame to all arrives at each node
 but its sender.
 
+What a frame is, the program tells (tools/dissecting.py).
+
 `pump`, `settle` and `burst` tell only how much happened. So each of them is taken apart here into the ticks, sends and
 arrivals of which it is made (docs/SCRIPTS.md), and each frame is asked for by `show`. The script that comes of it is run
 whole, and its answers are compared with those of the script itself: a trace that differs from the report is an error. `link`
 can't be taken apart; of its frames the trace knows that they arrived, and not with what answer.
 """
 
+import os
 import pathlib
 import subprocess
 import sys
 from typing import NamedTuple
 
+import dissecting
+
+# Where the proved program stands: in a release, or in a checkout.
+TOP = pathlib.Path(__file__).resolve().parent.parent
+PROGRAMS = (TOP / "program" / "tipc_sim", TOP / "crates" / "tipc_sim" / "out" / "tipc_sim")
 SECONDS = 60
-MOST_ARRIVALS = 2000
-LINK_PROTOCOL = {0: "STATE", 1: "RESET", 2: "ACTIVATE"}
-NUMBERED = {0: "payload", 1: "payload", 2: "payload", 3: "payload", 6: "bundle", 11: "names", 12: "fragment"}
-TUNNEL = {0: "duplicate", 1: "original"}
-DISCOVERY = {0: "request", 1: "response"}
+MOST_ARRIVALS = 20_000
 
 
 class CannotTrace(Exception):
@@ -37,18 +41,18 @@ class Line(NamedTuple):
 
 class Frame(NamedTuple):
     """A frame that was sent: the bearer, its place in that bearer's air from 0, its sender, the node that it is for (0: all),
-    its kind and number (0: none), and the deed that sent it."""
+    its bytes, what the program tells of them, and the deed that sent it."""
 
     bearer: int
     place: int
     sender: int
     receiver: int
-    kind: str
-    number: int
+    data: bytes
+    told: dissecting.Told
     deed: int
 
     def name(self) -> str:
-        return f"{self.kind} {self.number}" if self.number else self.kind
+        return self.told.name()
 
     def is_for(self, node: int) -> bool:
         return node != self.sender if self.receiver == 0 else node == self.receiver
@@ -93,6 +97,11 @@ class Trace(NamedTuple):
         return [frame for frame in self.frames if (frame.bearer, frame.place) not in there]
 
 
+def own_program() -> str:
+    """The proved program; nothing where it isn't there."""
+    return next((str(path) for path in PROGRAMS if os.access(path, os.X_OK)), "")
+
+
 def run(program: str, lines: list) -> list:
     """The answers of a script's lines; an error where it isn't run to its end."""
     script = "".join(f"{line}\n" for line in lines).encode("utf-8", "surrogateescape")
@@ -101,17 +110,6 @@ def run(program: str, lines: list) -> list:
     if ended.returncode != 0:
         raise CannotTrace(f"status {ended.returncode}: {report[-1] if report else 'nothing was printed'}")
     return [line.partition(" ")[2] for line in report]
-
-
-def kind_of(frame: bytes) -> tuple:
-    """The kind of a frame's packet and its number; the number is 0 where it has none."""
-    words = [int.from_bytes(frame[place : place + 4], "big") for place in range(16, 28, 4)]
-    user, subtype, number = words[0] >> 25 & 15, words[1] >> 29, words[2] & 0xFFFF
-    if user == 7:
-        return LINK_PROTOCOL[subtype], 0
-    if user == 13:
-        return DISCOVERY[subtype], 0
-    return (TUNNEL[subtype] if user == 10 else NUMBERED[user]), number
 
 
 class Tracer:
@@ -236,10 +234,14 @@ def frames_of(program: str, deeds: list) -> list:
                 asked.append(f"show {bearer} {place - marks[bearer]}")
         before = ends
     answers, frames = run(program, asked), []
-    for asked_at, bearer, place, number in wanted:
-        sender, receiver, text = answers[asked_at].split()
+    shown = [answers[asked_at].split() for asked_at, *_ in wanted]
+    try:
+        told = dissecting.dissect(program, [text for _, _, text in shown])
+    except dissecting.NotDissected as error:
+        raise CannotTrace(str(error)) from error
+    for (_, bearer, place, number), (sender, receiver, digits), text in zip(wanted, shown, told):
         to = 0 if receiver == "all" else int(receiver)
-        frames.append(Frame(bearer, place, int(sender), to, *kind_of(bytes.fromhex(text)), number))
+        frames.append(Frame(bearer, place, int(sender), to, bytes.fromhex(digits), text, number))
     return frames
 
 
@@ -299,7 +301,7 @@ def main(words: list) -> int:
         print(__doc__, file=sys.stderr)
         return 1
     try:
-        told = trace(words[0], pathlib.Path(words[1]).read_text(encoding="utf-8"))
+        told = trace(words[0], pathlib.Path(words[1]).read_bytes().decode("utf-8", "surrogateescape"))
     except (CannotTrace, OSError) as error:
         print(f"tracing.py: {error}", file=sys.stderr)
         return 2

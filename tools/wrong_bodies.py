@@ -4,16 +4,19 @@
 wrong_bodies.py [WORD..]: a table of all edits (crates/NAME/must-fail and wrong-bodies), or of those whose row has one of
 these words.
 wrong_bodies.py --look: prints only those that lead nowhere, and how many do. It fails where an edit's text stands in no
-function or item, or where neither a row of docs/RULE_TABLE.md nor docs/PROMISES.md leads on from it.
+function or item, or where neither a row of docs/RULE_TABLE.md nor a promise leads on from it.
 
 A rule is that of a row of docs/RULE_TABLE.md that names the edit itself, or the edit's function, or another function of
-its file. Where there is none, the part of docs/PROMISES.md stands there that tells of the crate.
+its file. Where there is none, the promise stands there: the clauses of the edit's function (tools/pages.py --text prints
+them), or, where it has none, the row of its crate in docs/PROMISES.md, "At a glance".
 """
 
 import pathlib
 import re
 import sys
 from typing import NamedTuple
+
+import sources
 
 TOP = pathlib.Path(__file__).resolve().parent.parent
 FOLDERS = ("must-fail", "wrong-bodies")
@@ -72,13 +75,22 @@ def rules() -> tuple:
 
 
 def promised() -> set:
-    """The crates of which docs/PROMISES.md has a part."""
-    headings = re.findall(r"(?m)^## (.*)$", (TOP / "docs" / "PROMISES.md").read_text(encoding="utf-8"))
-    return {crate for heading in headings for crate in re.findall(r"tipc_\w+", heading)}
+    """The crates that have a row in docs/PROMISES.md."""
+    rows = re.findall(r"(?m)^\| ((?:tipc_\w+(?:, )?)+) \| ", (TOP / "docs" / "PROMISES.md").read_text(encoding="utf-8"))
+    return {crate for row in rows for crate in row.split(", ")}
+
+
+def clauses_of(edit: Edit) -> str:
+    """The clauses of an edit's function; of several of its name in the file, of all."""
+    known = sources.all_sources()
+    files = [file for file in known.files[edit.crate, "src"] if f"{file.path}.rt" == edit.file]
+    texts = [item.text for file in files for item in file.items if item.name.rpartition("::")[2] == edit.function]
+    names = [name or "the one clause" for text in texts for name in re.findall(r"(?m)^ +ensures ?(\w*) \{", text)]
+    return ", ".join(dict.fromkeys(names))
 
 
 def leads_to(edit: Edit, known: tuple, crates: set) -> str:
-    """The rules, or the part of the promises, that an edit leads to; nothing where it leads nowhere."""
+    """The rules, or the promise, that an edit leads to; nothing where it leads nowhere."""
     by_edit, by_function, by_file = known
     rules_of = (
         by_edit.get((edit.crate, edit.name))
@@ -87,6 +99,8 @@ def leads_to(edit: Edit, known: tuple, crates: set) -> str:
     )
     if rules_of:
         return "; ".join(dict.fromkeys(rules_of))
+    if clauses := clauses_of(edit):
+        return f"`{edit.function}`: {clauses}"
     return f"docs/PROMISES.md, {edit.crate}" if edit.crate in crates else ""
 
 
